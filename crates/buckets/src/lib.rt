@@ -9,5 +9,6 @@ mod queue;
 mod ring;
 
 pub use ordered::OrderedBuckets;
+pub use places::Places;
 pub use queue::BucketQueue;
-pub use ring::RingBuckets;
+pub use ring::{RingBuckets, buckets_between, next_marked};

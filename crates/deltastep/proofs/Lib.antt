@@ -19,6 +19,7 @@ pub mod Remaining
 pub mod Resuming
 pub mod Rounds
 pub mod SomeWalk
+pub mod Sifted
 pub mod Starting
 pub mod Staying
 pub mod Taking

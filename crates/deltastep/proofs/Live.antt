@@ -6,7 +6,8 @@ use Rattle.std.proofs.lemmas.Bool.{cases_eq}
 use Rattle.std.proofs.lemmas.Option.{same_Some}
 use Rattle.snapshot.specs.Groups.{Groups, IsGrouped}
 use Rattle.snapshot.specs.declared.legs.Part.{Part}
-use Rattle.buckets.specs.Queue.{Entries, TakesLeast}
+use Rattle.buckets.specs.Queue.{Entries}
+use Rattle.frontier.specs.Frontier.{TakesAny}
 use Rattle.relax.specs.Requests.{requests_of}
 use Rattle.relax.specs.Values.{value_or}
 use Rattle.deltastep.specs.Search.{AreInBucket, AreLive, AreLiveFrom, MeetsRequests, ring_buckets, top_of}
@@ -32,13 +33,13 @@ AreLiveFrom-lowered groups nodes part old queue new queue' met b grouped values 
 ]
 
 -- what a taking leaves was there
-pub AreLiveFrom-taken : (groups : Groups) (b b' : ℕ) (queue : Entries) (taken : List ℕ) (queue' : Entries) → TakesLeast groups.delta queue b' taken queue' → AreLiveFrom groups b queue → AreLiveFrom groups b queue'
+pub AreLiveFrom-taken : (groups : Groups) (b b' : ℕ) (queue : Entries) (taken : List ℕ) (queue' : Entries) → TakesAny groups.delta queue b' taken queue' → AreLiveFrom groups b queue → AreLiveFrom groups b queue'
 AreLiveFrom-taken groups b b' queue taken queue' takes live u x has = live u x (get-outside_some groups.delta b' queue u x (subst (λ (m : Entries). get m u ≡ Some x) takes.rest has))
 
 -- no value is in a bucket before the one that is taken
-pub AreLiveFrom-least : (groups : Groups) (b b' : ℕ) (queue : Entries) (taken : List ℕ) (queue' : Entries) → TakesLeast groups.delta queue b' taken queue' → AreLiveFrom groups b queue → AreLiveFrom groups b' queue
+pub AreLiveFrom-least : (groups : Groups) (b b' : ℕ) (queue : Entries) (taken : List ℕ) (queue' : Entries) → TakesAny groups.delta queue b' taken queue' → AreLiveFrom groups b queue → AreLiveFrom groups b' queue
 AreLiveFrom-least groups b b' queue taken queue' takes live u x has =
-    let some = value_in_bucket groups.delta b' queue (head_of taken) (subst (λ xs. Contains xs (head_of taken)) takes.nodes (Contains-head_of taken takes.some_node)) in
+    let some = value_in_bucket groups.delta b' queue (head_of taken) ((takes.nodes (head_of taken)).0 (Contains-head_of taken takes.some_node)) in
     let near = live (head_of taken) some.0 some.1 in
     let low : b ≤ some.0 / groups.delta = near.0 in
     let here : some.0 / groups.delta ≡ b' = some.2 in
@@ -59,6 +60,6 @@ AreLiveFrom-first groups source m q true none is u x has =
 AreLiveFrom-first groups source m q false none is u x has = absurd (let no : None ≡ Some x = sym (ap (λ (n : Entries). get n u) (is ∙ none) ∙ get-empty nat_cmp u) ∙ has in let absurdity : ⊥ = cc in absurdity)
 
 -- a taking, by what the queue tells of it
-pub AreLiveFrom-taking : (groups : Groups) (width : ℕ) (bucket : Option ℕ) (nodes : List ℕ) (old new : Entries) → width ≡ groups.delta → MatchOption bucket (old ≡ empty) (λ least. TakesLeast width old least nodes new) → MatchOption bucket (new ≡ old) (λ _. Unit {0}) → MatchOption bucket (new ≡ empty) (λ least. AreLive groups old → AreLiveFrom groups least old)
+pub AreLiveFrom-taking : (groups : Groups) (width : ℕ) (bucket : Option ℕ) (nodes : List ℕ) (old new : Entries) → width ≡ groups.delta → MatchOption bucket (old ≡ empty) (λ least. TakesAny width old least nodes new) → MatchOption bucket (new ≡ old) (λ _. Unit {0}) → MatchOption bucket (new ≡ empty) (λ least. AreLive groups old → AreLiveFrom groups least old)
 AreLiveFrom-taking groups width None nodes old new is none same = same ∙ none
-AreLiveFrom-taking groups width (Some least) nodes old new is takes _ = λ live. AreLiveFrom-least groups live.first least old nodes new (subst (λ w. TakesLeast w old least nodes new) is takes) live.live
+AreLiveFrom-taking groups width (Some least) nodes old new is takes _ = λ live. AreLiveFrom-least groups live.first least old nodes new (subst (λ w. TakesAny w old least nodes new) is takes) live.live

@@ -5,7 +5,8 @@ use Rattle.std.specs.FinMap.{get, insert, get-empty, empty as FinMap_empty}
 use Rattle.std.specs.Ordering.{nat_cmp}
 use Rattle.snapshot.specs.Groups.{Groups, IsGrouped, legs_of}
 use Rattle.snapshot.specs.declared.legs.Leg.{Leg}
-use Rattle.buckets.specs.Queue.{Entries, TakesLeast}
+use Rattle.buckets.specs.Queue.{Entries}
+use Rattle.frontier.specs.Frontier.{TakesAny}
 use Rattle.relax.specs.Requests.{requests_of}
 use Rattle.relax.specs.Values.{value_or}
 use Rattle.deltastep.specs.Search.{top_of, AreReached, IsSearch, IsRelaxedBut, IsRelaxed, IsInBucket, AreInBucket, MeetsRequests, HasQueued, EndsPhase, EmptiesBucket, FitsFrom, ring_buckets, IsBucketEmpty, requests_by, weight}
@@ -56,7 +57,7 @@ EndsPhase-none groups b nodes old queue new queue' values light lowered search r
 }
 
 -- nodes came back, and were taken
-pub EndsPhase-some : (groups : Groups) (b : ℕ) (old : List (Option ℕ)) (queue : Entries) (new : List (Option ℕ)) (queue' : Entries) → EndsPhase groups b old queue new queue' [] → HasQueued new queue' groups.delta b → (b' : ℕ) (next : List ℕ) (queue'' : Entries) → TakesLeast groups.delta queue' b' next queue'' → EndsPhase groups b old queue new queue'' next
+pub EndsPhase-some : (groups : Groups) (b : ℕ) (old : List (Option ℕ)) (queue : Entries) (new : List (Option ℕ)) (queue' : Entries) → EndsPhase groups b old queue new queue' [] → HasQueued new queue' groups.delta b → (b' : ℕ) (next : List ℕ) (queue'' : Entries) → TakesAny groups.delta queue' b' next queue'' → EndsPhase groups b old queue new queue'' next
 EndsPhase-some groups b old queue new queue' ends queued b' next queue'' takes =
     let is : b' ≡ b = bucket_is groups new queue' b' next queue'' takes b ends.search queued in
     record {
@@ -69,15 +70,15 @@ EndsPhase-some groups b old queue new queue' ends queued b' next queue'' takes =
     }
 
 -- where a node came back, the taking that follows takes its bucket
-pub TakesLeast-back : (groups : Groups) (b : ℕ) (t : List (Option ℕ)) (queue : Entries) (taken : Option ℕ) (nodes : List ℕ) (queue' : Entries) (width : ℕ) → width ≡ groups.delta → IsSearch groups t queue b → HasQueued t queue groups.delta b → MatchOption taken (queue ≡ FinMap_empty) (λ least. TakesLeast width queue least nodes queue') → (taken ≡ Some b) × TakesLeast groups.delta queue b nodes queue'
-TakesLeast-back groups b t queue None nodes queue' width e search queued none = absurd (let no : None ≡ Some queued.value = sym (ap (λ (m : Entries). get m queued.node) none ∙ get-empty nat_cmp queued.node) ∙ queued.queued in let absurdity : ⊥ = cc in absurdity)
-TakesLeast-back groups b t queue (Some least) nodes queue' width e search queued takes =
-    let took : TakesLeast groups.delta queue least nodes queue' = subst (λ w. TakesLeast w queue least nodes queue') e takes in
+pub TakesAny-back : (groups : Groups) (b : ℕ) (t : List (Option ℕ)) (queue : Entries) (taken : Option ℕ) (nodes : List ℕ) (queue' : Entries) (width : ℕ) → width ≡ groups.delta → IsSearch groups t queue b → HasQueued t queue groups.delta b → MatchOption taken (queue ≡ FinMap_empty) (λ least. TakesAny width queue least nodes queue') → (taken ≡ Some b) × TakesAny groups.delta queue b nodes queue'
+TakesAny-back groups b t queue None nodes queue' width e search queued none = absurd (let no : None ≡ Some queued.value = sym (ap (λ (m : Entries). get m queued.node) none ∙ get-empty nat_cmp queued.node) ∙ queued.queued in let absurdity : ⊥ = cc in absurdity)
+TakesAny-back groups b t queue (Some least) nodes queue' width e search queued takes =
+    let took : TakesAny groups.delta queue least nodes queue' = subst (λ w. TakesAny w queue least nodes queue') e takes in
     let is : least ≡ b = bucket_is groups t queue least nodes queue' took b search queued in
-    (ap (λ n. Some n) is, subst (λ n. TakesLeast groups.delta queue n nodes queue') is took)
+    (ap (λ n. Some n) is, subst (λ n. TakesAny groups.delta queue n nodes queue') is took)
 
 -- a take lowers the weight
-pub weight-taken : (top width b : ℕ) (t : List (Option ℕ)) (queue : Entries) (taken : List ℕ) (queue' : Entries) → TakesLeast width queue b taken queue' → weight top t queue' < weight top t queue
+pub weight-taken : (top width b : ℕ) (t : List (Option ℕ)) (queue : Entries) (taken : List ℕ) (queue' : Entries) → TakesAny width queue b taken queue' → weight top t queue' < weight top t queue
 weight-taken top width b t queue taken queue' takes = omega (arith, len-taken width b queue taken queue' takes)
 
 -- the window of the bucket that was taken is that of the search

@@ -6,7 +6,8 @@ use Rattle.std.proofs.lemmas.Bool.{cases_eq}
 use Rattle.std.proofs.lemmas.Map.Views.{Contains-from_any, list_any-from_Contains}
 use Rattle.std.specs.Ordering.{eq_by_cmp}
 use Rattle.deltastep.proofs.Members.{Contains-head, Contains-tail, Contains-nil}
-use Rattle.buckets.specs.Queue.{Entries, TakesLeast, bucket, outside, is_in_bucket}
+use Rattle.buckets.specs.Queue.{Entries, bucket, outside, is_in_bucket}
+use Rattle.frontier.specs.Frontier.{TakesAny}
 
 tied : (q k : ℕ) (b : Bool) → (q == k) ≡ b → eq_by_cmp nat_cmp q k ≡ b
 tied q k b e = unsigned_tied q k ∙ e
@@ -130,10 +131,18 @@ outside_is width b m = same_map nat_cmp_total nat_cmp-IsAntisymmetric _ _ (λ q.
       | false ↦ λ e. (get-outside width b m q ∙ ap (λ t. cond (not t) (get m q) None) e) ∙ sym (get-without_other _ m q (λ c. let no : false ≡ true = sym e ∙ is_in_bucket-key width b m q c in let absurdity : ⊥ = cc in absurdity))
     ] refl)
 
+first_of : (xs : List ℕ) → 0 < length xs → (x : ℕ) × Contains xs x
+first_of [] some = absurd (omega arith)
+first_of (x ∷ xs) some = (x, Contains-head x xs)
+
+some_in : (xs : List ℕ) (x : ℕ) → Contains xs x → 0 < length xs
+some_in xs x (k, within, e) = omega arith
+
 -- what a take leaves is less
-pub len-taken : (width b : ℕ) (old : Entries) (taken : List ℕ) (new : Entries) → TakesLeast width old b taken new → len new < len old
+pub len-taken : (width b : ℕ) (old : Entries) (taken : List ℕ) (new : Entries) → TakesAny width old b taken new → len new < len old
 len-taken width b old taken new takes =
-    let some : 0 < length (keys (bucket width b old)) = rw (← takes.nodes) takes.some_node in
+    let first = first_of taken takes.some_node in
+    let some : 0 < length (keys (bucket width b old)) = some_in (keys (bucket width b old)) first.0 ((takes.nodes first.0).0 first.1) in
     subst (λ n. len n < len old) (sym (takes.rest ∙ outside_is width b old))
     (len-without_less (keys (bucket width b old)) old some (λ q c. let v = value_in_bucket width b old q c in ap is_some v.1))
 

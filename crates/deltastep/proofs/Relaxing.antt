@@ -7,7 +7,8 @@ use Rattle.std.proofs.lemmas.List.{get_or_past}
 use Rattle.std.proofs.lemmas.Bool.{cases_lt}
 use Rattle.std.proofs.lemmas.List.Sums.{sum_by_push}
 use Rattle.snapshot.specs.Groups.{Groups, legs_of, IsGrouped}
-use Rattle.buckets.specs.Queue.{Entries, TakesLeast}
+use Rattle.buckets.specs.Queue.{Entries}
+use Rattle.frontier.specs.Frontier.{TakesAny}
 use Rattle.relax.specs.Requests.{requests_from, requests_of}
 use Rattle.deltastep.specs.Search.{top_of, Trip, Reaches, AreReached, IsSearch, IsRelaxed, IsRelaxedBut, IsInBucket, AreInBucket, MeetsRequests, HasQueued, FitsFrom, ring_buckets, IsBucketEmpty}
 use Rattle.snapshot.specs.declared.legs.Leg.{Leg}
@@ -178,13 +179,13 @@ AreReached-lowered groups nodes part old queue new queue' lowered width b values
   ];
 }
 
-module _ (groups : Groups) (tentative : List (Option ℕ)) (old : Entries) (b : ℕ) (taken : List ℕ) (new : Entries) (takes : TakesLeast groups.delta old b taken new) where
+module _ (groups : Groups) (tentative : List (Option ℕ)) (old : Entries) (b : ℕ) (taken : List ℕ) (new : Entries) (takes : TakesAny groups.delta old b taken new) where
   -- the nodes that were taken are owed
   pub IsRelaxedBut-taken : (part : Part) (owed : List ℕ) → IsRelaxedBut groups part tentative old owed → IsRelaxedBut groups part tentative new (owed ++ taken)
   IsRelaxedBut-taken part owed but u = elim (but u) as (λ _. IsSome (get new u) ⊎ (Contains (owed ++ taken) u ⊎ IsRelaxed groups part tentative u)) [
     | inl queued ↦ elim (stays_or_taken groups.delta b old u queued) as (λ _. IsSome (get new u) ⊎ (Contains (owed ++ taken) u ⊎ IsRelaxed groups part tentative u)) [
       | inl stays ↦ inl (subst (λ m. IsSome (get m u)) (sym takes.rest) stays)
-      | inr c ↦ inr (inl (Contains-append_right owed taken u (subst (λ ks. Contains ks u) (sym takes.nodes) c)))
+      | inr c ↦ inr (inl (Contains-append_right owed taken u ((takes.nodes u).1 c)))
     ]
     | inr rest ↦ elim rest as (λ _. IsSome (get new u) ⊎ (Contains (owed ++ taken) u ⊎ IsRelaxed groups part tentative u)) [
       | inl owes ↦ inr (inl (Contains-append_left owed taken u owes))
@@ -194,7 +195,7 @@ module _ (groups : Groups) (tentative : List (Option ℕ)) (old : Entries) (b : 
 
   pub AreInBucket-taken : (b' : ℕ) → IsSearch groups tentative old b' → AreInBucket tentative groups.delta b taken
   AreInBucket-taken b' search u c =
-      let v = value_in_bucket groups.delta b old u (subst (λ ks. Contains ks u) takes.nodes c) in
+      let v = value_in_bucket groups.delta b old u ((takes.nodes u).0 c) in
       record { value = v.0; has = search.queued u v.0 v.1; within = v.2 }
 
   pub IsSearch-taken : (b' : ℕ) → IsSearch groups tentative old b' → IsSearch groups tentative new b
@@ -212,7 +213,7 @@ module _ (groups : Groups) (tentative : List (Option ℕ)) (old : Entries) (b : 
   pub bucket_is : (least : ℕ) → IsSearch groups tentative old least → HasQueued tentative old groups.delta least → b ≡ least
   bucket_is least search queued =
       let first : Contains taken (head_of taken) = Contains-head_of taken takes.some_node in
-      let v = value_in_bucket groups.delta b old (head_of taken) (subst (λ ks. Contains ks (head_of taken)) takes.nodes first) in
+      let v = value_in_bucket groups.delta b old (head_of taken) ((takes.nodes (head_of taken)).0 first) in
       le_antisymm (omega (arith, takes.least queued.node queued.value queued.queued, queued.within)) (omega (arith, search.above (head_of taken) v.0 v.1, v.2))
 
 pub value_at_within : (t : List (Option ℕ)) (u x : ℕ) → value_at t u ≡ Some x → u < length t
@@ -282,6 +283,6 @@ IsBucketEmpty-heavy groups grouped nodes part old queue new queue' b met values 
     ]
 
 -- nothing is left of a bucket that was taken
-pub IsBucketEmpty-taken : (width b : ℕ) (old : Entries) (taken : List ℕ) (new : Entries) → TakesLeast width old b taken new → IsBucketEmpty width b new
+pub IsBucketEmpty-taken : (width b : ℕ) (old : Entries) (taken : List ℕ) (new : Entries) → TakesAny width old b taken new → IsBucketEmpty width b new
 IsBucketEmpty-taken width b old taken new takes u x has within =
     not_in_outside width b old u x (subst (λ (m : Entries). get m u ≡ Some x) takes.rest has) within

@@ -3,6 +3,7 @@ pub mod Reach
 pub mod Remembered
 pub mod Repair
 pub mod Search
+pub mod Sifting
 pub mod Stepping
 pub mod Tentative
 pub mod Words

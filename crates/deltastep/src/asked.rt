@@ -13,9 +13,9 @@ use crate::distances::RowError;
 use crate::known::NodeDistance;
 use crate::search::Search;
 use crate::stepping::ring_size;
-use crate::target::drain;
 use crate::workspace::Workspace;
 use buckets::{BucketQueue, OrderedBuckets};
+use frontier::{Frontier, LazyRing, Queued};
 use relax::{Team, Tentative};
 use snapshot::Snapshot;
 use std::alloc::Global;
@@ -57,7 +57,7 @@ fn last_of(bucket: u64, delta: u64) -> u64
     bucket.saturating_mul(delta).saturating_add(delta - 1)
 }
 
-impl<Q: BucketQueue> Search<Q> {
+impl<F: Frontier> Search<F> {
     /// Settles bucket after bucket until what is asked can be answered, or no node is queued any more. Gives up to which length the values
     /// are final then: to the end of the bucket that was settled last, or where no node is queued, all of them.
     fn settle_for<A: Asked, T: Team>(
@@ -68,11 +68,11 @@ impl<Q: BucketQueue> Search<Q> {
         team: &T,
     ) -> Result<Option<u64>, RowError>
         requires suits { A.suits asked.now (snapshot.now.nodes + 1) }
-        requires state { (source : ℕ) × IsBetween Q.BucketQueue snapshot.now source self.old }
-        requires suited { HasWidth Q.BucketQueue snapshot.now self.old }
-        ensures state { OnOk result (StaysBetween Q.BucketQueue snapshot.now self.old self.new) }
-        ensures enough { IfOk result (λ end. IfSome end (λ e. A.suffices asked.now self.new.tentative e)) }
-        ensures beyond { IfOk result (λ end. IsBeyond end (Q.entries self.new.buckets)) }
+        requires state { (source : ℕ) × IsBetween F.Frontier snapshot.now source self.old }
+        requires suited { HasWidth F.Frontier snapshot.now self.old }
+        ensures state { OnOk result (StaysBetween F.Frontier snapshot.now self.old self.new) }
+        ensures enough { IfOk result (λ end. IfSome end (λ e. A.suffices asked.now (F.tentative self.new.frontier) e)) }
+        ensures beyond { IfOk result (λ end. IsBeyond end (F.entries self.new.frontier)) }
     {
         let delta = u64::from(snapshot.delta());
         let mut taken = Vec::new(alloc);
@@ -80,7 +80,7 @@ impl<Q: BucketQueue> Search<Q> {
             alloc, snapshot, team, &mut taken,
         )? {
             let end = last_of(bucket, delta);
-            if is_settled && asked.is_enough(&self.tentative, end) {
+            if is_settled && asked.is_enough(self.frontier.values(), end) {
                 return Ok(Some(end));
             }
         }
@@ -88,29 +88,28 @@ impl<Q: BucketQueue> Search<Q> {
     }
 }
 
-/// The answer to what is asked around `source` with the given team, values of no node, queue and memory of no node, and the values and the
-/// queue as the search leaves them.
+/// The answer to what is asked around `source` with the given team and a frontier of no value and no queued node, and the frontier as the search leaves
+/// it.
 #[inline(always)]
-fn answer_by<Q: BucketQueue + Drop, A: Asked, T: Team>(
+fn answer_by<F: Frontier + Drop, A: Asked, T: Team>(
     alloc: Global,
     snapshot: &Snapshot,
     source: u32,
     asked: &A,
     team: &T,
-    values: Tentative,
-    buckets: Q,
-) -> Result<(Vec<NodeDistance>, Tentative, Q), RowError>
-    requires blank { values ≡ replicate (snapshot.now.nodes + 1) None }
+    frontier: F,
+) -> Result<(Vec<NodeDistance>, F), RowError>
+    requires blank { F.tentative frontier ≡ replicate (snapshot.now.nodes + 1) None }
     requires source { (1 ≤ source) × (source ≤ snapshot.now.nodes) }
     requires asked { A.suits asked.now (snapshot.now.nodes + 1) }
-    requires suits { Suits snapshot.now (Q.entries buckets) (Q.accepts buckets) (Q.width buckets) (Q.span buckets) }
+    requires suits { Suits snapshot.now (F.entries frontier) (F.accepts frontier) (F.width frontier) (F.span frontier) }
     ensures told { IfOk result (λ found. (net : Net) → IsSnapshotOf net snapshot.now → A.answers asked.now net source found.0.items) }
 {
-    let mut search = Search::begin(snapshot, source, values, buckets)?;
+    let mut search = Search::begin(snapshot, source, frontier)?;
     let end = search.settle_for(alloc, snapshot, asked, team)?;
-    let Search { tentative, buckets } = search;
-    let told = asked.answer(alloc, &tentative, end)?;
-    Ok((told, tentative, buckets))
+    let Search { frontier } = search;
+    let told = asked.answer(alloc, frontier.values(), end)?;
+    Ok((told, frontier))
 }
 
 /// The answer to what is asked around `source` with the given team, values of no node and queue; the values are kept for the next search.
@@ -130,10 +129,16 @@ fn answer_with<Q: BucketQueue + Drop, A: Asked, T: Team>(
     requires suits { Suits snapshot.now (Q.entries buckets) (Q.accepts buckets) (Q.width buckets) (Q.span buckets) }
     ensures told { IfOk result (λ told. (net : Net) → IsSnapshotOf net snapshot.now → A.answers asked.now net source told.items) }
 {
-    let (told, values, _buckets) = answer_by(
-        alloc, snapshot, source, asked, team, values, buckets,
-    )?;
-    workspace.keep_values(values);
+    let frontier = Queued {
+        tentative: values,
+        buckets,
+    };
+    let (told, over) = answer_by(alloc, snapshot, source, asked, team, frontier)?;
+    let Queued {
+        tentative,
+        buckets: _,
+    } = over;
+    workspace.keep_values(tentative);
     Ok(told)
 }
 
@@ -157,11 +162,11 @@ pub(crate) fn answer_in<A: Asked, T: Team>(
             alloc, snapshot, source, asked, team, values, buckets, workspace,
         );
     };
-    let ring = workspace.take_ring(alloc, snapshot, size)?;
-    let (told, values, mut ring) = answer_by(alloc, snapshot, source, asked, team, values, ring)?;
+    let ring = workspace.take_ring(alloc, snapshot.delta(), size)?;
+    let frontier = LazyRing::new(alloc, values, ring);
+    let (told, over) = answer_by(alloc, snapshot, source, asked, team, frontier)?;
+    let (values, ring) = over.into_parts();
     workspace.keep_values(values);
-    if drain(alloc, &mut ring).is_ok() {
-        workspace.keep_ring(ring);
-    }
+    workspace.keep_ring(ring, snapshot.nodes());
     Ok(told)
 }

@@ -9,12 +9,12 @@ ghost use Rattle.deltastep.specs.Stepping.{IsUnderWay, OwesOnly, HasWidth, HasRo
 
 use crate::distances::RowError;
 use crate::search::Search;
-use buckets::BucketQueue;
+use frontier::Frontier;
 use relax::Team;
 use snapshot::{Part, Snapshot};
 use std::alloc::Global;
 
-impl<Q: BucketQueue> Search<Q> {
+impl<F: Frontier> Search<F> {
     /// Relaxes all legs of a node, whose value is in the given bucket, and tells whether a node came into it.
     #[inline(always)]
     fn relax_legs<T: Team>(
@@ -25,18 +25,18 @@ impl<Q: BucketQueue> Search<Q> {
         bucket: u64,
         node: u32,
     ) -> Result<bool, RowError>
-        requires search { IsUnderWay Q.BucketQueue snapshot.now self.old bucket }
-        requires node { AreInBucket self.old.tentative snapshot.now.delta bucket (node ∷ []) }
-        requires window { HasRoomFrom Q.BucketQueue snapshot.now self.old bucket }
-        requires suited { HasWidth Q.BucketQueue snapshot.now self.old }
-        ensures search { OnOk result (IsUnderWay Q.BucketQueue snapshot.now self.new bucket) }
-        ensures reached { OnOk result (StaysReached snapshot.now self.old self.new) }
-        ensures relaxed { OnOk result (RelaxesNode Q.BucketQueue snapshot.now node self.old self.new) }
-        ensures stays { OnOk result (KeepsInBucket snapshot.now bucket self.old self.new) }
-        ensures none_came { IfOk result (λ came_back. OnFalse came_back (KeepsEmpty Q.BucketQueue snapshot.now.delta bucket self.old self.new)) }
-        ensures weight { OnOk result (WeighsNoMore Q.BucketQueue (top_of snapshot.now) self.old self.new) }
-        ensures window { OnOk result (HasRoomFrom Q.BucketQueue snapshot.now self.new bucket) }
-        ensures suited { OnOk result (HasWidth Q.BucketQueue snapshot.now self.new) }
+        requires search { IsUnderWay F.Frontier snapshot.now self.old bucket }
+        requires node { AreInBucket (F.tentative self.old.frontier) snapshot.now.delta bucket (node ∷ []) }
+        requires window { HasRoomFrom F.Frontier snapshot.now self.old bucket }
+        requires suited { HasWidth F.Frontier snapshot.now self.old }
+        ensures search { OnOk result (IsUnderWay F.Frontier snapshot.now self.new bucket) }
+        ensures reached { OnOk result (StaysReached F.Frontier snapshot.now self.old self.new) }
+        ensures relaxed { OnOk result (RelaxesNode F.Frontier snapshot.now node self.old self.new) }
+        ensures stays { OnOk result (KeepsInBucket F.Frontier snapshot.now bucket self.old self.new) }
+        ensures none_came { IfOk result (λ came_back. OnFalse came_back (KeepsEmpty F.Frontier snapshot.now.delta bucket self.old self.new)) }
+        ensures weight { OnOk result (WeighsNoMore F.Frontier (top_of snapshot.now) self.old self.new) }
+        ensures window { OnOk result (HasRoomFrom F.Frontier snapshot.now self.new bucket) }
+        ensures suited { OnOk result (HasWidth F.Frontier snapshot.now self.new) }
     {
         let came_back = self.relax(alloc, snapshot, team, bucket, &[node], Part::Light)?;
         self.relax(alloc, snapshot, team, bucket, &[node], Part::Heavy)?;
@@ -53,17 +53,17 @@ impl<Q: BucketQueue> Search<Q> {
         bucket: u64,
         nodes: &[u32],
     ) -> Result<bool, RowError>
-        requires search { IsUnderWay Q.BucketQueue snapshot.now self.old bucket }
-        requires owed { (part : Part) → OwesOnly Q.BucketQueue snapshot.now part self.old nodes.now }
-        requires nodes { AreInBucket self.old.tentative snapshot.now.delta bucket nodes.now }
-        requires window { HasRoomFrom Q.BucketQueue snapshot.now self.old bucket }
-        requires suited { HasWidth Q.BucketQueue snapshot.now self.old }
-        ensures search { OnOk result (IsUnderWay Q.BucketQueue snapshot.now self.new bucket) }
-        ensures reached { OnOk result (StaysReached snapshot.now self.old self.new) }
-        ensures relaxed { OnOk result ((part : Part) → OwesOnly Q.BucketQueue snapshot.now part self.new []) }
-        ensures none_came { IfOk result (λ came_back. OnFalse came_back (KeepsEmpty Q.BucketQueue snapshot.now.delta bucket self.old self.new)) }
-        ensures weight { OnOk result (WeighsNoMore Q.BucketQueue (top_of snapshot.now) self.old self.new) }
-        ensures suited { OnOk result (HasWidth Q.BucketQueue snapshot.now self.new) }
+        requires search { IsUnderWay F.Frontier snapshot.now self.old bucket }
+        requires owed { (part : Part) → OwesOnly F.Frontier snapshot.now part self.old nodes.now }
+        requires nodes { AreInBucket (F.tentative self.old.frontier) snapshot.now.delta bucket nodes.now }
+        requires window { HasRoomFrom F.Frontier snapshot.now self.old bucket }
+        requires suited { HasWidth F.Frontier snapshot.now self.old }
+        ensures search { OnOk result (IsUnderWay F.Frontier snapshot.now self.new bucket) }
+        ensures reached { OnOk result (StaysReached F.Frontier snapshot.now self.old self.new) }
+        ensures relaxed { OnOk result ((part : Part) → OwesOnly F.Frontier snapshot.now part self.new []) }
+        ensures none_came { IfOk result (λ came_back. OnFalse came_back (KeepsEmpty F.Frontier snapshot.now.delta bucket self.old self.new)) }
+        ensures weight { OnOk result (WeighsNoMore F.Frontier (top_of snapshot.now) self.old self.new) }
+        ensures suited { OnOk result (HasWidth F.Frontier snapshot.now self.new) }
     {
         let mut came_back = false;
         for &node in nodes {
@@ -88,12 +88,12 @@ impl<Q: BucketQueue> Search<Q> {
         team: &T,
         taken: &mut Vec<u32>,
     ) -> Result<Option<(u64, bool)>, RowError>
-        requires state { (source : ℕ) × IsBetween Q.BucketQueue snapshot.now source self.old }
-        requires suited { HasWidth Q.BucketQueue snapshot.now self.old }
-        ensures state { OnOk result (StaysBetween Q.BucketQueue snapshot.now self.old self.new) }
-        ensures over { IfOk result (λ found. MatchOption found (IsOver Q.BucketQueue self.new) (λ found. OnTrue found.1 (IsBehind Q.BucketQueue snapshot.now.delta found.0 self.new))) }
-        ensures falls { IfOk result (λ found. IfSome found (λ _. WeighsLess Q.BucketQueue (top_of snapshot.now) self.old self.new)) }
-        ensures suited { OnOk result (HasWidth Q.BucketQueue snapshot.now self.new) }
+        requires state { (source : ℕ) × IsBetween F.Frontier snapshot.now source self.old }
+        requires suited { HasWidth F.Frontier snapshot.now self.old }
+        ensures state { OnOk result (StaysBetween F.Frontier snapshot.now self.old self.new) }
+        ensures over { IfOk result (λ found. MatchOption found (IsOver F.Frontier self.new) (λ found. OnTrue found.1 (IsBehind F.Frontier snapshot.now.delta found.0 self.new))) }
+        ensures falls { IfOk result (λ found. IfSome found (λ _. WeighsLess F.Frontier (top_of snapshot.now) self.old self.new)) }
+        ensures suited { OnOk result (HasWidth F.Frontier snapshot.now self.new) }
     {
         let Some(bucket) = self.take_bucket(snapshot, taken)? else {
             return Ok(None);

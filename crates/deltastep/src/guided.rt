@@ -1,6 +1,6 @@
 //! The distance to one target, by a search that lower bounds of the ways to it lead there.
 
-ghost use Rattle.std.specs.Prelude.{◌≡◌, ◌+◌, ◌*◌, ◌/◌, ◌≤◌, ◌<◌, ◌^◌, ◌↔◌, ℕ, Contains, None, false, length, max, replicate, IfOk, IfSome, IsTrue, OnOk, MatchOption};
+ghost use Rattle.std.specs.Prelude.{◌≡◌, ◌+◌, ◌*◌, ◌/◌, ◌≤◌, ◌<◌, ◌^◌, ◌↔◌, ℕ, Contains, None, Some, false, length, max, replicate, slice_set, IfOk, IfSome, IsTrue, OnOk, MatchBool, MatchOption};
 ghost use Rattle.std.specs.FinMap as map;
 ghost use Rattle.relax.specs.Values.{value_at, value_or};
 ghost use Rattle.roadnet.specs.Net.{Net};
@@ -12,9 +12,8 @@ ghost use Rattle.deltastep.specs.Stepping.{LowersByKey};
 ghost use Rattle.deltastep.specs.Reach.{IsDistance};
 
 use crate::distances::RowError;
-use crate::search::{Search, top};
+use crate::search::top;
 use crate::stepping::ring_size;
-use crate::target::drain;
 use crate::workspace::Workspace;
 use buckets::{BucketQueue, OrderedBuckets};
 use relax::Tentative;
@@ -76,14 +75,44 @@ fn width_of_keys(snapshot: &Snapshot) -> u32
     1 << widest.ilog2()
 }
 
-impl<Q: BucketQueue> Search<Q> {
+/// A search by keys under way: the least value found so far for each node, and the nodes whose legs are still to be relaxed, in buckets by key.
+#[derive(Drop)]
+pub struct KeyedSearch<Q> {
+    pub(crate) tentative: Tentative,
+    pub(crate) buckets: Q,
+}
+
+impl<Q: BucketQueue> KeyedSearch<Q> {
+    /// Lowers a node's value to the given one, if that is below `top` and the value so far, and queues the node by it. Tells whether it did.
+    #[inline(always)]
+    fn lower(&mut self, top: u64, node: u32, found: u64) -> Result<bool, RowError>
+        requires node { (1 ≤ node) × (node < length self.old.tentative) }
+        requires fits { Q.accepts self.old.buckets found }
+        requires small { top ≤ 2 ^ 56 }
+        ensures lowered { IfOk result (λ lowers. MatchBool lowers (found < value_or top self.old.tentative node) (value_or top self.old.tentative node ≤ found)) }
+        ensures tentative { IfOk result (λ lowers. MatchBool lowers (self.new.tentative ≡ slice_set self.old.tentative node (Some found)) (self.new.tentative ≡ self.old.tentative)) }
+        ensures queued { IfOk result (λ lowers. MatchBool lowers (Q.entries self.new.buckets ≡ map.insert (Q.entries self.old.buckets) node found) (Q.entries self.new.buckets ≡ Q.entries self.old.buckets)) }
+        ensures width { Q.width self.new.buckets ≡ Q.width self.old.buckets }
+        ensures span { Q.span self.new.buckets ≡ Q.span self.old.buckets }
+    {
+        let lowers = match self.tentative.get(node) {
+            Some(old) => found < old,
+            None => found < top,
+        };
+        if lowers {
+            self.buckets.put(node, found)?;
+            self.tentative.set(node, found);
+        }
+        Ok(lowers)
+    }
+
     /// A search by keys that knows the source alone, with values of no node and a queue of no node, of whatever width.
     fn begin_guided(
         snapshot: &Snapshot,
         source: u32,
         tentative: Tentative,
         buckets: Q,
-    ) -> Result<Search<Q>, RowError>
+    ) -> Result<KeyedSearch<Q>, RowError>
     where
         Q: Drop,
         requires node { (1 ≤ source) × (source ≤ snapshot.now.nodes) }
@@ -95,7 +124,7 @@ impl<Q: BucketQueue> Search<Q> {
         ensures width { IfOk result (λ search. Q.width search.buckets ≡ Q.width buckets) }
         ensures span { IfOk result (λ search. Q.span search.buckets ≡ Q.span buckets) }
     {
-        let mut search = Search { tentative, buckets };
+        let mut search = KeyedSearch { tentative, buckets };
         search.lower(top(snapshot), source, 0)?;
         Ok(search)
     }
@@ -289,10 +318,19 @@ fn guided_by<Q: BucketQueue + Drop, G: Guide>(
     requires window { 1 ≤ Q.span buckets }
     ensures distance { IfOk result (λ found. (net : Net) → IsSnapshotOf net snapshot.now → IsDistance net source target found.0) }
 {
-    let mut search = Search::begin_guided(snapshot, source, values, buckets)?;
+    let mut search = KeyedSearch::begin_guided(snapshot, source, values, buckets)?;
     search.settle_guided(alloc, snapshot, target, guide)?;
-    let Search { tentative, buckets } = search;
+    let KeyedSearch { tentative, buckets } = search;
     Ok((tentative.get(target), tentative, buckets))
+}
+
+/// Takes out all that is still queued. After want of memory some of it may be left.
+fn drain<Q: BucketQueue>(alloc: Global, queue: &mut Q) -> Result<(), RowError>
+    ensures { OnOk result (Q.entries queue.new ≡ map.empty) }
+{
+    let mut taken = Vec::new(alloc);
+    'buckets: while let Some(_bucket) = queue.take_least_into(&mut taken)? {}
+    Ok(())
 }
 
 /// The distance from `source` to `target`, as `distance_to_in` gives it, by a search that the guide leads to the target: nodes are settled in
@@ -325,13 +363,13 @@ pub fn distance_guided_in<G: Guide>(
         workspace.keep_values(values);
         return Ok(distance);
     };
-    let ring = workspace.take_ring_of(alloc, delta, size)?;
-    let (distance, values, mut ring) = guided_by(
-        alloc, snapshot, source, target, guide, values, ring,
+    let queue = workspace.take_queue(alloc, delta, size)?;
+    let (distance, values, mut queue) = guided_by(
+        alloc, snapshot, source, target, guide, values, queue,
     )?;
     workspace.keep_values(values);
-    if drain(alloc, &mut ring).is_ok() {
-        workspace.keep_ring(ring);
+    if drain(alloc, &mut queue).is_ok() {
+        workspace.keep_queue(queue);
     }
     Ok(distance)
 }

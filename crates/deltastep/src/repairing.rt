@@ -20,6 +20,7 @@ use crate::stepping::{ring_size, row_in};
 use crate::untouched::untouched_row;
 use crate::workspace::Workspace;
 use buckets::{BucketQueue, OrderedBuckets};
+use frontier::Queued;
 use relax::{Team, Tentative};
 use snapshot::{Leg, Part, Snapshot};
 use std::alloc::Global;
@@ -382,9 +383,12 @@ fn goes_on<Q: BucketQueue + Drop, T: Team>(
     requires grouped { IsGrouped snapshot.now }
     ensures row { IfOk result (λ made. (net : Net) → IsSnapshotOf net snapshot.now → RowOf net source made.0) }
 {
-    let mut search = Search { tentative, buckets };
+    let mut search = Search {
+        frontier: Queued { tentative, buckets },
+    };
     search.settle_all(alloc, snapshot, team, remembered)?;
-    let Search { tentative, buckets } = search;
+    let Search { frontier } = search;
+    let Queued { tentative, buckets } = frontier;
     Ok((Distances::from_words(tentative.into_words())?, buckets))
 }
 
@@ -413,20 +417,21 @@ fn repaired<T: Team>(
     };
     let mut remembered = workspace.take_remembered(alloc, snapshot.nodes() as usize + 1)?;
     if ring_size(snapshot).is_some() {
-        let mut ring = workspace.take_ring(alloc, snapshot, MOST_LISTS)?;
+        let mut queue = workspace.take_queue(alloc, snapshot.delta(), MOST_LISTS)?;
         if queue_near(
-            snapshot, before, back, source, old, changed, &tentative, &mut ring,
+            snapshot, before, back, source, old, changed, &tentative, &mut queue,
         )? {
-            let (row, ring) = goes_on(
+            let (row, queue) = goes_on(
                 alloc,
                 snapshot,
                 source,
                 tentative,
-                ring,
+                queue,
                 team,
                 &mut remembered,
             )?;
-            workspace.keep(ring, remembered);
+            workspace.keep_queue(queue);
+            workspace.keep_remembered(remembered);
             return Ok(row);
         }
     }

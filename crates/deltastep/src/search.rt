@@ -13,8 +13,9 @@ ghost use Rattle.deltastep.specs.Stepping.{IsUnderWay, IsEmptyAt, IsQueuedAt, Ow
 
 use crate::distances::RowError;
 use crate::remembered::Remembered;
-use buckets::BucketQueue;
-use relax::{Team, Tentative};
+use crate::sifting::sift;
+use frontier::Frontier;
+use relax::Team;
 use roadnet::LONGEST_ARC;
 use snapshot::{Leg, Part, Snapshot};
 use std::alloc::Global;
@@ -52,61 +53,34 @@ fn is_alone(snapshot: &Snapshot, nodes: &[u32]) -> bool
     }
 }
 
-/// A search under way: the least value found so far for each node, and the nodes whose legs are still to be relaxed, in buckets by
-/// that value.
+/// A search under way: the least value found so far for each node, and the nodes whose legs are still to be relaxed: a frontier.
 ///
-/// It begins with `start`, and goes on by `take_bucket` and `settle` in turn, until no bucket is left. After an `Err` it is not
+/// It begins with `begin`, and goes on by `take_bucket` and `settle` in turn, until no bucket is left. After an `Err` it is not
 /// used again.
 #[derive(Drop)]
-pub struct Search<Q> {
-    pub(crate) tentative: Tentative,
-    pub(crate) buckets: Q,
+pub struct Search<F> {
+    pub(crate) frontier: F,
 }
 
-impl<Q: BucketQueue> Search<Q> {
-    /// A search that knows the source alone, which is queued with 0.
-    pub fn start(
-        alloc: Global,
-        snapshot: &Snapshot,
-        source: u32,
-        buckets: Q,
-    ) -> Result<Search<Q>, RowError>
+impl<F: Frontier> Search<F> {
+    /// A search that knows the source alone, which is queued with 0, over a frontier of values of which no node has one.
+    pub fn begin(snapshot: &Snapshot, source: u32, frontier: F) -> Result<Search<F>, RowError>
     where
-        Q: Drop,
+        F: Drop,
         requires node { (1 ≤ source) × (source ≤ snapshot.now.nodes) }
-        requires suits { Suits snapshot.now (Q.entries buckets) (Q.accepts buckets) (Q.width buckets) (Q.span buckets) }
-        ensures state { IfOk result (λ search. IsBetweenBuckets snapshot.now source search.tentative (Q.entries search.buckets)) }
-        ensures live { IfOk result (λ search. AreLiveFrom snapshot.now 0 (Q.entries search.buckets)) }
+        requires blank { F.tentative frontier ≡ replicate (snapshot.now.nodes + 1) None }
+        requires suits { Suits snapshot.now (F.entries frontier) (F.accepts frontier) (F.width frontier) (F.span frontier) }
+        ensures state { IfOk result (λ search. IsBetweenBuckets snapshot.now source (F.tentative search.frontier) (F.entries search.frontier)) }
+        ensures live { IfOk result (λ search. AreLiveFrom snapshot.now 0 (F.entries search.frontier)) }
         ensures grouped { OnOk result (IsGrouped snapshot.now) }
-        ensures suited { IfOk result (λ search. IsSuited snapshot.now (Q.width search.buckets) (Q.span search.buckets)) }
+        ensures suited { IfOk result (λ search. IsSuited snapshot.now (F.width search.frontier) (F.span search.frontier)) }
     {
-        let tentative = Tentative::new(alloc, snapshot.nodes())?;
-        Search::begin(snapshot, source, tentative, buckets)
-    }
-
-    /// The same search with these values, of which no node has one.
-    pub(crate) fn begin(
-        snapshot: &Snapshot,
-        source: u32,
-        tentative: Tentative,
-        buckets: Q,
-    ) -> Result<Search<Q>, RowError>
-    where
-        Q: Drop,
-        requires node { (1 ≤ source) × (source ≤ snapshot.now.nodes) }
-        requires blank { tentative ≡ replicate (snapshot.now.nodes + 1) None }
-        requires suits { Suits snapshot.now (Q.entries buckets) (Q.accepts buckets) (Q.width buckets) (Q.span buckets) }
-        ensures state { IfOk result (λ search. IsBetweenBuckets snapshot.now source search.tentative (Q.entries search.buckets)) }
-        ensures live { IfOk result (λ search. AreLiveFrom snapshot.now 0 (Q.entries search.buckets)) }
-        ensures grouped { OnOk result (IsGrouped snapshot.now) }
-        ensures suited { IfOk result (λ search. IsSuited snapshot.now (Q.width search.buckets) (Q.span search.buckets)) }
-    {
-        let mut search = Search { tentative, buckets };
+        let mut search = Search { frontier };
         search.lower(top(snapshot), source, 0)?;
         Ok(search)
     }
 
-    /// Takes the least bucket that is not empty: gives its number, or nothing where no node is queued, and puts its nodes, ascending, into
+    /// Takes the least bucket that is not empty: gives its number, or nothing where no node is queued, and puts its nodes, each once, into
     /// the given list in place of what was there. Where all values that are queued lie in `ceil(L / delta) + 1` buckets in a row, with L the greatest
     /// length of a leg, they do so from the one that is taken on. So it is in each search that knew the source alone when it began.
     ///
@@ -118,14 +92,14 @@ impl<Q: BucketQueue> Search<Q> {
         _snapshot: &Snapshot,
         taken: &mut Vec<u32>,
     ) -> Result<Option<u64>, RowError>
-        requires suited { HasWidth Q.BucketQueue _snapshot.now self.old }
-        ensures taken { IfOk result (λ bucket. TakesBucket Q.BucketQueue _snapshot.now.delta taken.new.items self.old self.new bucket) }
-        ensures live { IfOk result (λ bucket. TellsWindow Q.BucketQueue _snapshot.now self.old self.new bucket) }
-        ensures window { IfOk result (λ bucket. MatchOption bucket (Unit {0}) (λ bucket. HasRoomFrom Q.BucketQueue _snapshot.now self.new bucket)) }
-        ensures tentative { self.new.tentative ≡ self.old.tentative }
-        ensures suited { HasWidth Q.BucketQueue _snapshot.now self.new }
+        requires suited { HasWidth F.Frontier _snapshot.now self.old }
+        ensures taken { IfOk result (λ bucket. TakesBucket F.Frontier _snapshot.now.delta taken.new.items self.old self.new bucket) }
+        ensures live { IfOk result (λ bucket. TellsWindow F.Frontier _snapshot.now self.old self.new bucket) }
+        ensures window { IfOk result (λ bucket. MatchOption bucket (Unit {0}) (λ bucket. HasRoomFrom F.Frontier _snapshot.now self.new bucket)) }
+        ensures tentative { (F.tentative self.new.frontier) ≡ (F.tentative self.old.frontier) }
+        ensures suited { HasWidth F.Frontier _snapshot.now self.new }
     {
-        Ok(self.buckets.take_least_into(taken)?)
+        Ok(self.frontier.take_least_into(taken)?)
     }
 
     /// Settles bucket after bucket until none is left, with the memory of nodes that is given.
@@ -137,10 +111,10 @@ impl<Q: BucketQueue> Search<Q> {
         team: &T,
         remembered: &mut Remembered,
     ) -> Result<(), RowError>
-        requires state { (source : ℕ) × IsBetween Q.BucketQueue snapshot.now source self.old }
-        requires suited { HasWidth Q.BucketQueue snapshot.now self.old }
+        requires state { (source : ℕ) × IsBetween F.Frontier snapshot.now source self.old }
+        requires suited { HasWidth F.Frontier snapshot.now self.old }
         requires none { remembered.old ≡ record { limit = snapshot.now.nodes + 1; nodes = [] } }
-        ensures settled { OnOk result ((source : ℕ) → IsBetween Q.BucketQueue snapshot.now source self.old → IsBetweenBuckets snapshot.now source self.new.tentative map.empty) }
+        ensures settled { OnOk result ((source : ℕ) → IsBetween F.Frontier snapshot.now source self.old → IsBetweenBuckets snapshot.now source (F.tentative self.new.frontier) map.empty) }
     {
         let mut taken = Vec::new(alloc);
         'buckets: while let Some(_bucket) = self.settle_next(
@@ -160,13 +134,13 @@ impl<Q: BucketQueue> Search<Q> {
         taken: &mut Vec<u32>,
         remembered: &mut Remembered,
     ) -> Result<Option<u64>, RowError>
-        requires state { (source : ℕ) × IsBetween Q.BucketQueue snapshot.now source self.old }
-        requires suited { HasWidth Q.BucketQueue snapshot.now self.old }
+        requires state { (source : ℕ) × IsBetween F.Frontier snapshot.now source self.old }
+        requires suited { HasWidth F.Frontier snapshot.now self.old }
         requires none { remembered.old ≡ record { limit = snapshot.now.nodes + 1; nodes = [] } }
-        ensures state { OnOk result (StaysBetween Q.BucketQueue snapshot.now self.old self.new) }
-        ensures later { IfOk result (λ bucket. MatchOption bucket (IsOver Q.BucketQueue self.new) (λ bucket. IsBehind Q.BucketQueue snapshot.now.delta bucket self.new)) }
-        ensures falls { IfOk result (λ bucket. IfSome bucket (λ _. WeighsLess Q.BucketQueue (top_of snapshot.now) self.old self.new)) }
-        ensures suited { OnOk result (HasWidth Q.BucketQueue snapshot.now self.new) }
+        ensures state { OnOk result (StaysBetween F.Frontier snapshot.now self.old self.new) }
+        ensures later { IfOk result (λ bucket. MatchOption bucket (IsOver F.Frontier self.new) (λ bucket. IsBehind F.Frontier snapshot.now.delta bucket self.new)) }
+        ensures falls { IfOk result (λ bucket. IfSome bucket (λ _. WeighsLess F.Frontier (top_of snapshot.now) self.old self.new)) }
+        ensures suited { OnOk result (HasWidth F.Frontier snapshot.now self.new) }
         ensures none { OnOk result (remembered.new ≡ record { limit = snapshot.now.nodes + 1; nodes = [] }) }
     {
         let Some(bucket) = self.take_bucket(snapshot, taken)? else {
@@ -188,19 +162,19 @@ impl<Q: BucketQueue> Search<Q> {
         taken: &mut Vec<u32>,
         remembered: &mut Remembered,
     ) -> Result<(), RowError>
-        requires search { IsUnderWay Q.BucketQueue snapshot.now self.old bucket }
-        requires light { OwesOnly Q.BucketQueue snapshot.now Light self.old taken.old.items }
-        requires heavy { OwesOnly Q.BucketQueue snapshot.now Heavy self.old taken.old.items }
-        requires taken { AreInBucket self.old.tentative snapshot.now.delta bucket taken.old.items }
-        requires emptied { IsEmptyAt Q.BucketQueue snapshot.now.delta bucket self.old }
+        requires search { IsUnderWay F.Frontier snapshot.now self.old bucket }
+        requires light { OwesOnly F.Frontier snapshot.now Light self.old taken.old.items }
+        requires heavy { OwesOnly F.Frontier snapshot.now Heavy self.old taken.old.items }
+        requires taken { AreInBucket (F.tentative self.old.frontier) snapshot.now.delta bucket taken.old.items }
+        requires emptied { IsEmptyAt F.Frontier snapshot.now.delta bucket self.old }
         requires none { remembered.old ≡ record { limit = snapshot.now.nodes + 1; nodes = [] } }
-        requires window { HasRoomFrom Q.BucketQueue snapshot.now self.old bucket }
-        requires suited { HasWidth Q.BucketQueue snapshot.now self.old }
-        ensures settled { OnOk result (EmptiesBucket snapshot.now bucket self.old.tentative self.new.tentative (Q.entries self.new.buckets) []) }
-        ensures weight { OnOk result (WeighsNoMore Q.BucketQueue (top_of snapshot.now) self.old self.new) }
+        requires window { HasRoomFrom F.Frontier snapshot.now self.old bucket }
+        requires suited { HasWidth F.Frontier snapshot.now self.old }
+        ensures settled { OnOk result (EmptiesBucket snapshot.now bucket (F.tentative self.old.frontier) (F.tentative self.new.frontier) (F.entries self.new.frontier) []) }
+        ensures weight { OnOk result (WeighsNoMore F.Frontier (top_of snapshot.now) self.old self.new) }
         ensures none { OnOk result (remembered.new ≡ record { limit = snapshot.now.nodes + 1; nodes = [] }) }
-        ensures live { OnOk result (StaysLive Q.BucketQueue snapshot.now bucket self.old self.new) }
-        ensures suited { OnOk result (HasWidth Q.BucketQueue snapshot.now self.new) }
+        ensures live { OnOk result (StaysLive F.Frontier snapshot.now bucket self.old self.new) }
+        ensures suited { OnOk result (HasWidth F.Frontier snapshot.now self.new) }
     {
         if is_alone(snapshot, taken) {
             self.relax(alloc, snapshot, team, bucket, taken, Part::Heavy)?;
@@ -230,20 +204,20 @@ impl<Q: BucketQueue> Search<Q> {
         nodes: &mut Vec<u32>,
         remembered: &mut Remembered,
     ) -> Result<(), RowError>
-        requires search { IsUnderWay Q.BucketQueue snapshot.now self.old bucket }
-        requires light { OwesOnly Q.BucketQueue snapshot.now Light self.old nodes.old.items }
-        requires heavy { OwesOnly Q.BucketQueue snapshot.now Heavy self.old nodes.old.items }
-        requires nodes { AreInBucket self.old.tentative snapshot.now.delta bucket nodes.old.items }
-        requires emptied { IsEmptyAt Q.BucketQueue snapshot.now.delta bucket self.old }
+        requires search { IsUnderWay F.Frontier snapshot.now self.old bucket }
+        requires light { OwesOnly F.Frontier snapshot.now Light self.old nodes.old.items }
+        requires heavy { OwesOnly F.Frontier snapshot.now Heavy self.old nodes.old.items }
+        requires nodes { AreInBucket (F.tentative self.old.frontier) snapshot.now.delta bucket nodes.old.items }
+        requires emptied { IsEmptyAt F.Frontier snapshot.now.delta bucket self.old }
         requires none { remembered.old ≡ record { limit = snapshot.now.nodes + 1; nodes = [] } }
-        requires window { HasRoomFrom Q.BucketQueue snapshot.now self.old bucket }
-        requires suited { HasWidth Q.BucketQueue snapshot.now self.old }
-        ensures emptied { OnOk result (EmptiesBucket snapshot.now bucket self.old.tentative self.new.tentative (Q.entries self.new.buckets) remembered.new.nodes) }
-        ensures weight { OnOk result (WeighsNoMore Q.BucketQueue (top_of snapshot.now) self.old self.new) }
+        requires window { HasRoomFrom F.Frontier snapshot.now self.old bucket }
+        requires suited { HasWidth F.Frontier snapshot.now self.old }
+        ensures emptied { OnOk result (EmptiesBucket snapshot.now bucket (F.tentative self.old.frontier) (F.tentative self.new.frontier) (F.entries self.new.frontier) remembered.new.nodes) }
+        ensures weight { OnOk result (WeighsNoMore F.Frontier (top_of snapshot.now) self.old self.new) }
         ensures limit { OnOk result (remembered.new.limit ≡ snapshot.now.nodes + 1) }
-        ensures window { OnOk result (HasRoomFrom Q.BucketQueue snapshot.now self.new bucket) }
-        ensures live { OnOk result (StaysLive Q.BucketQueue snapshot.now bucket self.old self.new) }
-        ensures suited { OnOk result (HasWidth Q.BucketQueue snapshot.now self.new) }
+        ensures window { OnOk result (HasRoomFrom F.Frontier snapshot.now self.new bucket) }
+        ensures live { OnOk result (StaysLive F.Frontier snapshot.now bucket self.old self.new) }
+        ensures suited { OnOk result (HasWidth F.Frontier snapshot.now self.new) }
     {
         'phases: while !nodes.is_empty() {
             remembered.add_all(nodes)?;
@@ -263,22 +237,22 @@ impl<Q: BucketQueue> Search<Q> {
         bucket: u64,
         nodes: &mut Vec<u32>,
     ) -> Result<(), RowError>
-        requires search { IsUnderWay Q.BucketQueue snapshot.now self.old bucket }
-        requires light { OwesOnly Q.BucketQueue snapshot.now Light self.old nodes.old.items }
-        requires nodes { AreInBucket self.old.tentative snapshot.now.delta bucket nodes.old.items }
-        requires emptied { IsEmptyAt Q.BucketQueue snapshot.now.delta bucket self.old }
-        requires window { HasRoomFrom Q.BucketQueue snapshot.now self.old bucket }
-        requires suited { HasWidth Q.BucketQueue snapshot.now self.old }
-        ensures phase { OnOk result (EndsPhase snapshot.now bucket self.old.tentative (Q.entries self.old.buckets) self.new.tentative (Q.entries self.new.buckets) nodes.new.items) }
-        ensures weight { OnOk result (WeighsNoMore Q.BucketQueue (top_of snapshot.now) self.old self.new) }
-        ensures emptied { OnOk result (IsEmptyAt Q.BucketQueue snapshot.now.delta bucket self.new) }
-        ensures falls { OnOk result (0 < vec_len nodes.new → WeighsLess Q.BucketQueue (top_of snapshot.now) self.old self.new) }
-        ensures window { OnOk result (HasRoomFrom Q.BucketQueue snapshot.now self.new bucket) }
-        ensures live { OnOk result (StaysLive Q.BucketQueue snapshot.now bucket self.old self.new) }
-        ensures suited { OnOk result (HasWidth Q.BucketQueue snapshot.now self.new) }
+        requires search { IsUnderWay F.Frontier snapshot.now self.old bucket }
+        requires light { OwesOnly F.Frontier snapshot.now Light self.old nodes.old.items }
+        requires nodes { AreInBucket (F.tentative self.old.frontier) snapshot.now.delta bucket nodes.old.items }
+        requires emptied { IsEmptyAt F.Frontier snapshot.now.delta bucket self.old }
+        requires window { HasRoomFrom F.Frontier snapshot.now self.old bucket }
+        requires suited { HasWidth F.Frontier snapshot.now self.old }
+        ensures phase { OnOk result (EndsPhase snapshot.now bucket (F.tentative self.old.frontier) (F.entries self.old.frontier) (F.tentative self.new.frontier) (F.entries self.new.frontier) nodes.new.items) }
+        ensures weight { OnOk result (WeighsNoMore F.Frontier (top_of snapshot.now) self.old self.new) }
+        ensures emptied { OnOk result (IsEmptyAt F.Frontier snapshot.now.delta bucket self.new) }
+        ensures falls { OnOk result (0 < vec_len nodes.new → WeighsLess F.Frontier (top_of snapshot.now) self.old self.new) }
+        ensures window { OnOk result (HasRoomFrom F.Frontier snapshot.now self.new bucket) }
+        ensures live { OnOk result (StaysLive F.Frontier snapshot.now bucket self.old self.new) }
+        ensures suited { OnOk result (HasWidth F.Frontier snapshot.now self.new) }
     {
         if self.relax(alloc, snapshot, team, bucket, nodes, Part::Light)? {
-            self.buckets.take_least_into(nodes)?;
+            self.frontier.take_least_into(nodes)?;
         } else {
             nodes.clear();
         }
@@ -296,21 +270,21 @@ impl<Q: BucketQueue> Search<Q> {
         nodes: &[u32],
         part: Part,
     ) -> Result<bool, RowError>
-        requires search { IsUnderWay Q.BucketQueue snapshot.now self.old bucket }
-        requires nodes { AreInBucket self.old.tentative snapshot.now.delta bucket nodes.now }
+        requires search { IsUnderWay F.Frontier snapshot.now self.old bucket }
+        requires nodes { AreInBucket (F.tentative self.old.frontier) snapshot.now.delta bucket nodes.now }
         requires once { part ≡ Heavy → IsDistinct (λ a b. a == b) nodes.now }
-        requires window { HasRoomFrom Q.BucketQueue snapshot.now self.old bucket }
-        requires suited { HasWidth Q.BucketQueue snapshot.now self.old }
-        ensures search { OnOk result (IsUnderWay Q.BucketQueue snapshot.now self.new bucket) }
-        ensures reached { OnOk result (StaysReached snapshot.now self.old self.new) }
-        ensures met { OnOk result (Meets Q.BucketQueue (top_of snapshot.now) (requests_of snapshot.now nodes.now self.old.tentative part) self.old self.new) }
-        ensures stays { OnOk result (KeepsInBucket snapshot.now bucket self.old self.new) }
-        ensures came_back { IfOk result (λ came_back. OnTrue came_back (IsQueuedAt Q.BucketQueue snapshot.now.delta bucket self.new)) }
-        ensures none_came { IfOk result (λ came_back. OnFalse came_back (KeepsEmpty Q.BucketQueue snapshot.now.delta bucket self.old self.new)) }
-        ensures weight { OnOk result (WeighsNoMore Q.BucketQueue (top_of snapshot.now) self.old self.new) }
-        ensures window { OnOk result (HasRoomFrom Q.BucketQueue snapshot.now self.new bucket) }
-        ensures live { OnOk result (StaysLive Q.BucketQueue snapshot.now bucket self.old self.new) }
-        ensures suited { OnOk result (HasWidth Q.BucketQueue snapshot.now self.new) }
+        requires window { HasRoomFrom F.Frontier snapshot.now self.old bucket }
+        requires suited { HasWidth F.Frontier snapshot.now self.old }
+        ensures search { OnOk result (IsUnderWay F.Frontier snapshot.now self.new bucket) }
+        ensures reached { OnOk result (StaysReached F.Frontier snapshot.now self.old self.new) }
+        ensures met { OnOk result (Meets F.Frontier (top_of snapshot.now) (requests_of snapshot.now nodes.now (F.tentative self.old.frontier) part) self.old self.new) }
+        ensures stays { OnOk result (KeepsInBucket F.Frontier snapshot.now bucket self.old self.new) }
+        ensures came_back { IfOk result (λ came_back. OnTrue came_back (IsQueuedAt F.Frontier snapshot.now.delta bucket self.new)) }
+        ensures none_came { IfOk result (λ came_back. OnFalse came_back (KeepsEmpty F.Frontier snapshot.now.delta bucket self.old self.new)) }
+        ensures weight { OnOk result (WeighsNoMore F.Frontier (top_of snapshot.now) self.old self.new) }
+        ensures window { OnOk result (HasRoomFrom F.Frontier snapshot.now self.new bucket) }
+        ensures live { OnOk result (StaysLive F.Frontier snapshot.now bucket self.old self.new) }
+        ensures suited { OnOk result (HasWidth F.Frontier snapshot.now self.new) }
         ensures grouped { OnOk result (IsGrouped snapshot.now) }
     {
         let top = top(snapshot);
@@ -334,23 +308,24 @@ impl<Q: BucketQueue> Search<Q> {
         requires top { top ≡ top_of snapshot.now }
         requires small { top ≤ 2 ^ 56 }
         requires grouped { IsGrouped snapshot.now }
-        requires search { IsUnderWay Q.BucketQueue snapshot.now self.old bucket }
-        requires nodes { AreInBucket self.old.tentative snapshot.now.delta bucket nodes.now }
-        requires window { HasRoomFrom Q.BucketQueue snapshot.now self.old bucket }
-        requires width { Q.width self.old.buckets ≡ snapshot.now.delta }
-        ensures met { OnOk result (Meets Q.BucketQueue top (requests_of snapshot.now nodes.now self.old.tentative part) self.old self.new) }
-        ensures came_back { IfOk result (λ came_back. OnTrue came_back (IsQueuedAt Q.BucketQueue (Q.width self.old.buckets) bucket self.new)) }
-        ensures none_came { IfOk result (λ came_back. OnFalse came_back (KeepsEmpty Q.BucketQueue (Q.width self.old.buckets) bucket self.old self.new)) }
-        ensures weight { OnOk result (WeighsNoMore Q.BucketQueue top self.old self.new) }
-        ensures accepts { OnOk result ((v : ℕ) → Q.accepts self.old.buckets v → Q.accepts self.new.buckets v) }
-        ensures width { OnOk result (Q.width self.new.buckets ≡ Q.width self.old.buckets) }
-        ensures span { OnOk result (Q.span self.new.buckets ≡ Q.span self.old.buckets) }
+        requires search { IsUnderWay F.Frontier snapshot.now self.old bucket }
+        requires nodes { AreInBucket (F.tentative self.old.frontier) snapshot.now.delta bucket nodes.now }
+        requires window { HasRoomFrom F.Frontier snapshot.now self.old bucket }
+        requires width { F.width self.old.frontier ≡ snapshot.now.delta }
+        ensures met { OnOk result (Meets F.Frontier top (requests_of snapshot.now nodes.now (F.tentative self.old.frontier) part) self.old self.new) }
+        ensures came_back { IfOk result (λ came_back. OnTrue came_back (IsQueuedAt F.Frontier (F.width self.old.frontier) bucket self.new)) }
+        ensures none_came { IfOk result (λ came_back. OnFalse came_back (KeepsEmpty F.Frontier (F.width self.old.frontier) bucket self.old self.new)) }
+        ensures weight { OnOk result (WeighsNoMore F.Frontier top self.old self.new) }
+        ensures accepts { OnOk result ((v : ℕ) → F.accepts self.old.frontier v → F.accepts self.new.frontier v) }
+        ensures width { OnOk result (F.width self.new.frontier ≡ F.width self.old.frontier) }
+        ensures span { OnOk result (F.span self.new.frontier ≡ F.span self.old.frontier) }
     {
         if let [node] = nodes {
-            let value = self.tentative.get(*node).unwrap_or(0);
+            let value = self.frontier.values().get(*node).unwrap_or(0);
             return self.meet_legs(top, bucket, value, snapshot.legs(*node, part));
         }
-        let requests = team.requests(alloc, snapshot, nodes, &self.tentative, part)?;
+        let mut requests = team.requests(alloc, snapshot, nodes, self.frontier.values(), part)?;
+        sift(alloc, &mut requests, self.frontier.values(), top)?;
         self.meet(top, bucket, &requests)
     }
 
@@ -363,19 +338,19 @@ impl<Q: BucketQueue> Search<Q> {
         value: u64,
         legs: &[Leg],
     ) -> Result<bool, RowError>
-        requires nodes { All (λ r. (1 ≤ r.0) × (r.0 < length self.old.tentative)) (requests_by value legs.now) }
-        requires fits { All (λ r. Q.accepts self.old.buckets r.1) (requests_by value legs.now) }
-        requires above { All (λ r. bucket ≤ r.1 / Q.width self.old.buckets) (requests_by value legs.now) }
+        requires nodes { All (λ r. (1 ≤ r.0) × (r.0 < length (F.tentative self.old.frontier))) (requests_by value legs.now) }
+        requires fits { All (λ r. F.accepts self.old.frontier r.1) (requests_by value legs.now) }
+        requires above { All (λ r. bucket ≤ r.1 / F.width self.old.frontier) (requests_by value legs.now) }
         requires small { (top ≤ 2 ^ 56) × (value < 2 ^ 56) }
-        ensures met { OnOk result (Meets Q.BucketQueue top (requests_by value legs.now) self.old self.new) }
-        ensures came_back { IfOk result (λ came_back. OnTrue came_back (IsQueuedAt Q.BucketQueue (Q.width self.old.buckets) bucket self.new)) }
-        ensures none_came { IfOk result (λ came_back. OnFalse came_back (KeepsEmpty Q.BucketQueue (Q.width self.old.buckets) bucket self.old self.new)) }
-        ensures weight { OnOk result (WeighsNoMore Q.BucketQueue top self.old self.new) }
-        ensures accepts { OnOk result ((v : ℕ) → Q.accepts self.old.buckets v → Q.accepts self.new.buckets v) }
-        ensures width { OnOk result (Q.width self.new.buckets ≡ Q.width self.old.buckets) }
-        ensures span { OnOk result (Q.span self.new.buckets ≡ Q.span self.old.buckets) }
+        ensures met { OnOk result (Meets F.Frontier top (requests_by value legs.now) self.old self.new) }
+        ensures came_back { IfOk result (λ came_back. OnTrue came_back (IsQueuedAt F.Frontier (F.width self.old.frontier) bucket self.new)) }
+        ensures none_came { IfOk result (λ came_back. OnFalse came_back (KeepsEmpty F.Frontier (F.width self.old.frontier) bucket self.old self.new)) }
+        ensures weight { OnOk result (WeighsNoMore F.Frontier top self.old self.new) }
+        ensures accepts { OnOk result ((v : ℕ) → F.accepts self.old.frontier v → F.accepts self.new.frontier v) }
+        ensures width { OnOk result (F.width self.new.frontier ≡ F.width self.old.frontier) }
+        ensures span { OnOk result (F.span self.new.frontier ≡ F.span self.old.frontier) }
     {
-        let delta = u64::from(self.buckets.delta());
+        let delta = u64::from(self.frontier.delta());
         let start = bucket.saturating_mul(delta);
         let mut came_back = false;
         for leg in legs {
@@ -389,19 +364,19 @@ impl<Q: BucketQueue> Search<Q> {
 
     /// Meets the requests in order, and tells whether a node came into the given bucket.
     fn meet(&mut self, top: u64, bucket: u64, requests: &[(u32, u64)]) -> Result<bool, RowError>
-        requires nodes { All (λ r. (1 ≤ r.0) × (r.0 < length self.old.tentative)) requests.now }
-        requires fits { All (λ r. Q.accepts self.old.buckets r.1) requests.now }
-        requires above { All (λ r. bucket ≤ r.1 / Q.width self.old.buckets) requests.now }
+        requires nodes { All (λ r. (1 ≤ r.0) × (r.0 < length (F.tentative self.old.frontier))) requests.now }
+        requires fits { All (λ r. F.accepts self.old.frontier r.1) requests.now }
+        requires above { All (λ r. bucket ≤ r.1 / F.width self.old.frontier) requests.now }
         requires small { top ≤ 2 ^ 56 }
-        ensures met { OnOk result (Meets Q.BucketQueue top requests.now self.old self.new) }
-        ensures came_back { IfOk result (λ came_back. OnTrue came_back (IsQueuedAt Q.BucketQueue (Q.width self.old.buckets) bucket self.new)) }
-        ensures none_came { IfOk result (λ came_back. OnFalse came_back (KeepsEmpty Q.BucketQueue (Q.width self.old.buckets) bucket self.old self.new)) }
-        ensures weight { OnOk result (WeighsNoMore Q.BucketQueue top self.old self.new) }
-        ensures accepts { OnOk result ((v : ℕ) → Q.accepts self.old.buckets v → Q.accepts self.new.buckets v) }
-        ensures width { OnOk result (Q.width self.new.buckets ≡ Q.width self.old.buckets) }
-        ensures span { OnOk result (Q.span self.new.buckets ≡ Q.span self.old.buckets) }
+        ensures met { OnOk result (Meets F.Frontier top requests.now self.old self.new) }
+        ensures came_back { IfOk result (λ came_back. OnTrue came_back (IsQueuedAt F.Frontier (F.width self.old.frontier) bucket self.new)) }
+        ensures none_came { IfOk result (λ came_back. OnFalse came_back (KeepsEmpty F.Frontier (F.width self.old.frontier) bucket self.old self.new)) }
+        ensures weight { OnOk result (WeighsNoMore F.Frontier top self.old self.new) }
+        ensures accepts { OnOk result ((v : ℕ) → F.accepts self.old.frontier v → F.accepts self.new.frontier v) }
+        ensures width { OnOk result (F.width self.new.frontier ≡ F.width self.old.frontier) }
+        ensures span { OnOk result (F.span self.new.frontier ≡ F.span self.old.frontier) }
     {
-        let delta = u64::from(self.buckets.delta());
+        let delta = u64::from(self.frontier.delta());
         let start = bucket.saturating_mul(delta);
         let mut came_back = false;
         for request in requests {
@@ -424,22 +399,22 @@ impl<Q: BucketQueue> Search<Q> {
         node: u32,
         value: u64,
     ) -> Result<bool, RowError>
-        requires width { delta ≡ Q.width self.old.buckets }
+        requires width { delta ≡ F.width self.old.frontier }
         requires positive { 1 ≤ delta }
         requires start { start ≡ min (bucket * delta) u64.MAX }
-        requires node { (1 ≤ node) × (node < length self.old.tentative) }
-        requires fits { Q.accepts self.old.buckets value }
-        requires above { bucket ≤ value / Q.width self.old.buckets }
+        requires node { (1 ≤ node) × (node < length (F.tentative self.old.frontier)) }
+        requires fits { F.accepts self.old.frontier value }
+        requires above { bucket ≤ value / F.width self.old.frontier }
         requires small { top ≤ 2 ^ 56 }
-        ensures met { OnOk result (MeetsOneMore Q.BucketQueue top (node, value) self.old self.new) }
-        ensures came_back { IfOk result (λ came_back. OnTrue came_back (IsQueuedAt Q.BucketQueue (Q.width self.old.buckets) bucket self.new)) }
-        ensures stays { OnOk result (KeepsQueued Q.BucketQueue (Q.width self.old.buckets) bucket self.old self.new) }
-        ensures none_came { IfOk result (λ came_back. OnFalse came_back (KeepsEmpty Q.BucketQueue (Q.width self.old.buckets) bucket self.old self.new)) }
-        ensures weight { OnOk result (WeighsNoMore Q.BucketQueue top self.old self.new) }
-        ensures accepts { OnOk result ((v : ℕ) → Q.accepts self.old.buckets v → Q.accepts self.new.buckets v) }
-        ensures width { OnOk result (Q.width self.new.buckets ≡ Q.width self.old.buckets) }
-        ensures span { OnOk result (Q.span self.new.buckets ≡ Q.span self.old.buckets) }
-        ensures places { OnOk result (length self.new.tentative ≡ length self.old.tentative) }
+        ensures met { OnOk result (MeetsOneMore F.Frontier top (node, value) self.old self.new) }
+        ensures came_back { IfOk result (λ came_back. OnTrue came_back (IsQueuedAt F.Frontier (F.width self.old.frontier) bucket self.new)) }
+        ensures stays { OnOk result (KeepsQueued F.Frontier (F.width self.old.frontier) bucket self.old self.new) }
+        ensures none_came { IfOk result (λ came_back. OnFalse came_back (KeepsEmpty F.Frontier (F.width self.old.frontier) bucket self.old self.new)) }
+        ensures weight { OnOk result (WeighsNoMore F.Frontier top self.old self.new) }
+        ensures accepts { OnOk result ((v : ℕ) → F.accepts self.old.frontier v → F.accepts self.new.frontier v) }
+        ensures width { OnOk result (F.width self.new.frontier ≡ F.width self.old.frontier) }
+        ensures span { OnOk result (F.span self.new.frontier ≡ F.span self.old.frontier) }
+        ensures places { OnOk result (length (F.tentative self.new.frontier) ≡ length (F.tentative self.old.frontier)) }
     {
         if !self.lower(top, node, value)? {
             return Ok(false);
@@ -450,24 +425,16 @@ impl<Q: BucketQueue> Search<Q> {
     /// Lowers a node's value to the given one, if that is below `top` and the value so far, and queues the node. Tells whether it did.
     #[inline(always)]
     pub(crate) fn lower(&mut self, top: u64, node: u32, value: u64) -> Result<bool, RowError>
-        requires node { (1 ≤ node) × (node < length self.old.tentative) }
-        requires fits { Q.accepts self.old.buckets value }
+        requires node { (1 ≤ node) × (node < length (F.tentative self.old.frontier)) }
+        requires fits { F.accepts self.old.frontier value }
         requires small { top ≤ 2 ^ 56 }
-        ensures lowered { IfOk result (λ lowers. MatchBool lowers (value < value_or top self.old.tentative node) (value_or top self.old.tentative node ≤ value)) }
-        ensures tentative { IfOk result (λ lowers. MatchBool lowers (self.new.tentative ≡ slice_set self.old.tentative node (Some value)) (self.new.tentative ≡ self.old.tentative)) }
-        ensures queued { IfOk result (λ lowers. QueuesWhere Q.BucketQueue lowers node value self.old self.new) }
-        ensures accepts { (v : ℕ) → Q.accepts self.old.buckets v → Q.accepts self.new.buckets v }
-        ensures width { Q.width self.new.buckets ≡ Q.width self.old.buckets }
-        ensures span { Q.span self.new.buckets ≡ Q.span self.old.buckets }
+        ensures lowered { IfOk result (λ lowers. MatchBool lowers (value < value_or top (F.tentative self.old.frontier) node) (value_or top (F.tentative self.old.frontier) node ≤ value)) }
+        ensures tentative { IfOk result (λ lowers. MatchBool lowers ((F.tentative self.new.frontier) ≡ slice_set (F.tentative self.old.frontier) node (Some value)) ((F.tentative self.new.frontier) ≡ (F.tentative self.old.frontier))) }
+        ensures queued { IfOk result (λ lowers. QueuesWhere F.Frontier lowers node value self.old self.new) }
+        ensures accepts { (v : ℕ) → F.accepts self.old.frontier v → F.accepts self.new.frontier v }
+        ensures width { F.width self.new.frontier ≡ F.width self.old.frontier }
+        ensures span { F.span self.new.frontier ≡ F.span self.old.frontier }
     {
-        let lowers = match self.tentative.get(node) {
-            Some(old) => value < old,
-            None => value < top,
-        };
-        if lowers {
-            self.buckets.put(node, value)?;
-            self.tentative.set(node, value);
-        }
-        Ok(lowers)
+        Ok(self.frontier.lower(top, node, value)?)
     }
 }

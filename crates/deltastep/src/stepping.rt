@@ -1,15 +1,17 @@
-ghost use Rattle.std.specs.Prelude.{◌≡◌, ◌+◌, ◌≤◌, ◌↔◌, [], IfOk, IsTrue};
+ghost use Rattle.std.specs.Prelude.{◌≡◌, ◌+◌, ◌≤◌, ◌↔◌, [], None, Some, replicate, IfOk, IsTrue, OnOk};
 ghost use Rattle.roadnet.specs.Net.{Net};
 ghost use Rattle.roadnet.specs.Walks.{RowOf};
-ghost use Rattle.snapshot.specs.Groups.{IsSnapshotOf};
-ghost use Rattle.deltastep.specs.Search.{Suits, ring_buckets, IsRingSize};
+ghost use Rattle.snapshot.specs.Groups.{IsGrouped, IsSnapshotOf};
+ghost use Rattle.deltastep.specs.Search.{IsBetweenBuckets, Suits, ring_buckets, IsRingSize};
+ghost use Rattle.std.specs.FinMap as map;
 
 use crate::distances::{Distances, RowError};
 use crate::remembered::Remembered;
 use crate::search::Search;
 use crate::workspace::Workspace;
 use buckets::{BucketQueue, OrderedBuckets};
-use relax::Team;
+use frontier::{Frontier, LazyRing, Queued};
+use relax::{Team, Tentative};
 use snapshot::Snapshot;
 use std::alloc::Global;
 
@@ -21,7 +23,7 @@ const MOST_LISTS: u64 = 65536;
 ///
 /// The nodes lie in buckets by the length of the shortest way found so far. The least bucket is taken out again and again while the
 /// light arcs of its nodes bring nodes back into it; then the heavy arcs of all nodes that were taken from it are relaxed. Its one error
-/// is want of memory: it takes 9 bytes a node beside the queue, and 16 for each arc of a phase.
+/// is want of memory: it takes 9 bytes a node beside the queue, and 24 for each arc of a phase.
 pub fn row_from<Q: BucketQueue + Drop, T: Team>(
     alloc: Global,
     snapshot: &Snapshot,
@@ -34,29 +36,37 @@ pub fn row_from<Q: BucketQueue + Drop, T: Team>(
     ensures row { IfOk result (λ row. (net : Net) → IsSnapshotOf net snapshot.now → RowOf net source row) }
 {
     let mut remembered = Remembered::new(alloc, snapshot.nodes() as usize + 1)?;
-    let (row, _buckets) = row_by(alloc, snapshot, source, team, buckets, &mut remembered)?;
-    Ok(row)
+    let tentative = Tentative::new(alloc, snapshot.nodes())?;
+    let frontier = Queued { tentative, buckets };
+    let over = settled(alloc, snapshot, source, team, frontier, &mut remembered)?;
+    let Queued {
+        tentative,
+        buckets: _,
+    } = over;
+    Ok(Distances::from_words(tentative.into_words())?)
 }
 
-/// The row of `source` with the given team, queue and memory of no node, and the queue as the search leaves it.
+/// The frontier of a search from `source` that is over, with the given team, a frontier of no value and no queued node, and memory of no node.
 #[inline(always)]
-fn row_by<Q: BucketQueue + Drop, T: Team>(
+fn settled<F: Frontier + Drop, T: Team>(
     alloc: Global,
     snapshot: &Snapshot,
     source: u32,
     team: &T,
-    buckets: Q,
+    frontier: F,
     remembered: &mut Remembered,
-) -> Result<(Distances, Q), RowError>
+) -> Result<F, RowError>
     requires node { (1 ≤ source) × (source ≤ snapshot.now.nodes) }
-    requires suits { Suits snapshot.now (Q.entries buckets) (Q.accepts buckets) (Q.width buckets) (Q.span buckets) }
+    requires blank { F.tentative frontier ≡ replicate (snapshot.now.nodes + 1) None }
+    requires suits { Suits snapshot.now (F.entries frontier) (F.accepts frontier) (F.width frontier) (F.span frontier) }
     requires none { remembered.old ≡ record { limit = snapshot.now.nodes + 1; nodes = [] } }
-    ensures row { IfOk result (λ made. (net : Net) → IsSnapshotOf net snapshot.now → RowOf net source made.0) }
+    ensures state { IfOk result (λ over. IsBetweenBuckets snapshot.now source (F.tentative over) map.empty) }
+    ensures grouped { OnOk result (IsGrouped snapshot.now) }
 {
-    let mut search = Search::start(alloc, snapshot, source, buckets)?;
+    let mut search = Search::begin(snapshot, source, frontier)?;
     search.settle_all(alloc, snapshot, team, remembered)?;
-    let Search { tentative, buckets } = search;
-    Ok((Distances::from_words(tentative.into_words())?, buckets))
+    let Search { frontier } = search;
+    Ok(frontier)
 }
 
 /// Whether a search of this snapshot can begin with this queue: no node is queued, a node of value 0 fits, its buckets are as wide as
@@ -127,9 +137,13 @@ pub fn row_in<T: Team>(
         let buckets = OrderedBuckets::new(alloc, snapshot.delta());
         return row_from(alloc, snapshot, source, team, buckets);
     };
-    let ring = workspace.take_ring(alloc, snapshot, size)?;
+    let ring = workspace.take_ring(alloc, snapshot.delta(), size)?;
     let mut remembered = workspace.take_remembered(alloc, snapshot.nodes() as usize + 1)?;
-    let (row, ring) = row_by(alloc, snapshot, source, team, ring, &mut remembered)?;
-    workspace.keep(ring, remembered);
-    Ok(row)
+    let tentative = Tentative::new(alloc, snapshot.nodes())?;
+    let frontier = LazyRing::new(alloc, tentative, ring);
+    let over = settled(alloc, snapshot, source, team, frontier, &mut remembered)?;
+    let (tentative, ring) = over.into_parts();
+    workspace.keep_ring(ring, snapshot.nodes());
+    workspace.keep_remembered(remembered);
+    Ok(Distances::from_words(tentative.into_words())?)
 }

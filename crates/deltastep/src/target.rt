@@ -2,7 +2,6 @@
 
 ghost use Rattle.std.specs.Prelude.{◌≡◌, ◌+◌, ◌/◌, ◌≤◌, ◌<◌, ◌↔◌, ℕ, [], None, false, length, replicate, IfOk, IsTrue, OnOk, MatchOption};
 ghost use Rattle.relax.specs.Values.{value_at};
-ghost use Rattle.std.specs.FinMap as map;
 ghost use Rattle.roadnet.specs.Net.{Net};
 ghost use Rattle.snapshot.specs.Groups.{IsSnapshotOf};
 ghost use Rattle.deltastep.specs.Search.{IsFinal, Suits};
@@ -15,11 +14,12 @@ use crate::search::Search;
 use crate::stepping::ring_size;
 use crate::workspace::Workspace;
 use buckets::{BucketQueue, OrderedBuckets};
+use frontier::{Frontier, LazyRing, Queued};
 use relax::{Team, Tentative};
 use snapshot::Snapshot;
 use std::alloc::Global;
 
-impl<Q: BucketQueue> Search<Q> {
+impl<F: Frontier> Search<F> {
     /// Settles bucket after bucket until the value of `target` is final: until the bucket that it is in is settled, since no arc leads from a
     /// later bucket back to less, or no node is queued any more.
     #[inline(always)]
@@ -32,11 +32,11 @@ impl<Q: BucketQueue> Search<Q> {
         remembered: &mut Remembered,
     ) -> Result<(), RowError>
         requires target { (1 ≤ target) × (target ≤ snapshot.now.nodes) }
-        requires state { (source : ℕ) × IsBetween Q.BucketQueue snapshot.now source self.old }
-        requires suited { HasWidth Q.BucketQueue snapshot.now self.old }
+        requires state { (source : ℕ) × IsBetween F.Frontier snapshot.now source self.old }
+        requires suited { HasWidth F.Frontier snapshot.now self.old }
         requires none { remembered.old ≡ record { limit = snapshot.now.nodes + 1; nodes = [] } }
-        ensures state { OnOk result (StaysBetween Q.BucketQueue snapshot.now self.old self.new) }
-        ensures settled { OnOk result (IsFinal snapshot.now self.new.tentative (Q.entries self.new.buckets) target) }
+        ensures state { OnOk result (StaysBetween F.Frontier snapshot.now self.old self.new) }
+        ensures settled { OnOk result (IsFinal snapshot.now (F.tentative self.new.frontier) (F.entries self.new.frontier) target) }
     {
         let delta = u64::from(snapshot.delta());
         let mut taken = Vec::new(alloc);
@@ -53,11 +53,11 @@ impl<Q: BucketQueue> Search<Q> {
     /// Whether a node has a value, and that is in the given bucket or an earlier one.
     #[inline(always)]
     fn is_within(&self, node: u32, bucket: u64, delta: u64) -> bool
-        requires node { (1 ≤ node) × (node < length self.now.tentative) }
+        requires node { (1 ≤ node) × (node < length (F.tentative self.now.frontier)) }
         requires positive { 1 ≤ delta }
-        ensures { MatchOption (value_at self.now.tentative node) (result ≡ false) (λ value. IsTrue result ↔ (value / delta ≤ bucket)) }
+        ensures { MatchOption (value_at (F.tentative self.now.frontier) node) (result ≡ false) (λ value. IsTrue result ↔ (value / delta ≤ bucket)) }
     {
-        match self.tentative.get(node) {
+        match self.frontier.values().get(node) {
             Some(value) => value / delta <= bucket,
             None => false,
         }
@@ -82,53 +82,51 @@ fn distance_with<Q: BucketQueue + Drop, T: Team>(
     ensures distance { IfOk result (λ distance. (net : Net) → IsSnapshotOf net snapshot.now → IsDistance net source target distance) }
 {
     let mut remembered = Remembered::new(alloc, snapshot.nodes() as usize + 1)?;
-    let (distance, values, _buckets) = distance_by(
+    let frontier = Queued {
+        tentative: values,
+        buckets,
+    };
+    let (distance, over) = distance_by(
         alloc,
         snapshot,
         source,
         target,
         team,
-        values,
-        buckets,
+        frontier,
         &mut remembered,
     )?;
-    workspace.keep_values(values);
+    let Queued {
+        tentative,
+        buckets: _,
+    } = over;
+    workspace.keep_values(tentative);
     Ok(distance)
 }
 
-/// Takes out all that is still queued. After want of memory some of it may be left.
-pub(crate) fn drain<Q: BucketQueue>(alloc: Global, queue: &mut Q) -> Result<(), RowError>
-    ensures { OnOk result (Q.entries queue.new ≡ map.empty) }
-{
-    let mut taken = Vec::new(alloc);
-    'buckets: while let Some(_bucket) = queue.take_least_into(&mut taken)? {}
-    Ok(())
-}
-
-/// The distance from `source` to `target` with the given team, values of no node, queue and memory of no node, and the values and the queue
-/// as the search leaves them.
+/// The distance from `source` to `target` with the given team, a frontier of no value and no queued node, and memory of no node; and the frontier as the
+/// search leaves it.
 #[inline(always)]
-fn distance_by<Q: BucketQueue + Drop, T: Team>(
+fn distance_by<F: Frontier + Drop, T: Team>(
     alloc: Global,
     snapshot: &Snapshot,
     source: u32,
     target: u32,
     team: &T,
-    values: Tentative,
-    buckets: Q,
+    frontier: F,
     remembered: &mut Remembered,
-) -> Result<(Option<u64>, Tentative, Q), RowError>
-    requires blank { values ≡ replicate (snapshot.now.nodes + 1) None }
+) -> Result<(Option<u64>, F), RowError>
+    requires blank { F.tentative frontier ≡ replicate (snapshot.now.nodes + 1) None }
     requires source { (1 ≤ source) × (source ≤ snapshot.now.nodes) }
     requires target { (1 ≤ target) × (target ≤ snapshot.now.nodes) }
-    requires suits { Suits snapshot.now (Q.entries buckets) (Q.accepts buckets) (Q.width buckets) (Q.span buckets) }
+    requires suits { Suits snapshot.now (F.entries frontier) (F.accepts frontier) (F.width frontier) (F.span frontier) }
     requires none { remembered.old ≡ record { limit = snapshot.now.nodes + 1; nodes = [] } }
     ensures distance { IfOk result (λ found. (net : Net) → IsSnapshotOf net snapshot.now → IsDistance net source target found.0) }
 {
-    let mut search = Search::begin(snapshot, source, values, buckets)?;
+    let mut search = Search::begin(snapshot, source, frontier)?;
     search.settle_until(alloc, snapshot, target, team, remembered)?;
-    let Search { tentative, buckets } = search;
-    Ok((tentative.get(target), tentative, buckets))
+    let Search { frontier } = search;
+    let distance = frontier.values().get(target);
+    Ok((distance, frontier))
 }
 
 /// The least length of a walk from `source` to `target`, or nothing where no walk leads there: what the row of `source` has for `target`,
@@ -158,21 +156,21 @@ pub fn distance_to_in<T: Team>(
             alloc, snapshot, source, target, team, values, buckets, workspace,
         );
     };
-    let ring = workspace.take_ring(alloc, snapshot, size)?;
+    let ring = workspace.take_ring(alloc, snapshot.delta(), size)?;
     let mut remembered = workspace.take_remembered(alloc, snapshot.nodes() as usize + 1)?;
-    let (distance, values, mut ring) = distance_by(
+    let frontier = LazyRing::new(alloc, values, ring);
+    let (distance, over) = distance_by(
         alloc,
         snapshot,
         source,
         target,
         team,
-        values,
-        ring,
+        frontier,
         &mut remembered,
     )?;
+    let (values, ring) = over.into_parts();
     workspace.keep_values(values);
-    if drain(alloc, &mut ring).is_ok() {
-        workspace.keep(ring, remembered);
-    }
+    workspace.keep_ring(ring, snapshot.nodes());
+    workspace.keep_remembered(remembered);
     Ok(distance)
 }

@@ -2,37 +2,28 @@
 
 ghost use Rattle.std.specs.Prelude.{◌≡◌, ◌+◌, ◌≤◌, [], None, Some, IsOk, IsSome, IfOk, IfSome, length, replicate};
 ghost use Rattle.std.specs.FinMap as map;
-ghost use Rattle.deltastep.specs.Search.{Suits, IsSuited, ring_buckets, most_lists};
+ghost use Rattle.frontier.specs.Entries.{IsFresh};
+ghost use Rattle.deltastep.specs.Search.{most_lists};
 
 use crate::distances::RowError;
 use crate::remembered::Remembered;
-use crate::stepping::suits;
 use buckets::{BucketQueue, RingBuckets};
+use frontier::EntryRing;
 use relax::Tentative;
-use snapshot::Snapshot;
 use std::alloc::Global;
 
+/// So many places a list of a ring may have, whatever the network.
+const FEW_PLACES: usize = 8;
+
 /// The memory that a search takes beside its row, left to the next search, of the same snapshot or another: what does not suit that is made
-/// anew, such as a ring after a search that was led to its target, whose buckets are narrower. It takes none before a search has left some, and then 14 to 27 bytes a node, 24 a list of the ring, and what these lists hold; after a search for
-/// one distance 8 bytes a node more, and 4 for each node that any of them reached.
+/// anew, such as a ring after a search that was led to its target, which leaves a queue in its place. It takes none before a search has left some, and then at most 27 bytes a node: 1 to 17, and 24 to 152 a
+/// list, with a ring, and 14 to 27, 24 a list, and what these lists hold, with a queue; after a search for one distance 8 bytes a node more, and 4 for each node that any of them reached.
 #[derive(Drop)]
 pub struct Workspace {
-    ring: Option<RingBuckets>,
+    ring: Option<EntryRing>,
+    queue: Option<RingBuckets>,
     remembered: Option<Remembered>,
     values: Option<Tentative>,
-}
-
-/// The queue that was left, if there is one and a search of this snapshot can begin with it.
-fn suited<Q: BucketQueue + Drop>(left: Option<Q>, snapshot: &Snapshot) -> Option<Q>
-    ensures suits { IfSome result (λ q. Suits snapshot.now (Q.entries q) (Q.accepts q) (Q.width q) (Q.span q)) }
-    ensures kept { IfSome left (λ q. Suits snapshot.now (Q.entries q) (Q.accepts q) (Q.width q) (Q.span q) → result ≡ Some q) }
-{
-    if let Some(queue) = left {
-        if suits(&queue, snapshot) {
-            return Some(queue);
-        }
-    }
-    None
 }
 
 /// The queue that was left, if there is one, no node is queued, a node of value 0 fits, its buckets are of this width, and as many fit.
@@ -57,33 +48,35 @@ impl Workspace {
     pub fn new() -> Workspace {
         Workspace {
             ring: None,
+            queue: None,
             remembered: None,
             values: None,
         }
     }
 
-    /// A ring for a search of this snapshot: the one that was left, where it suits, else a new one of so many lists, which are enough.
+    /// A ring of no entry, of buckets of this width: the one that was left, where it is so and has as many lists, else a new one.
     pub(crate) fn take_ring(
         &mut self,
         alloc: Global,
-        snapshot: &Snapshot,
+        delta: u32,
         size: u32,
-    ) -> Result<RingBuckets, RowError>
-        requires size { ring_buckets snapshot.now.greatest snapshot.now.delta ≤ size }
+    ) -> Result<EntryRing, RowError>
+        requires width { 1 ≤ delta }
+        requires some { 1 ≤ size }
         requires few { size ≤ most_lists }
-        ensures empty { IfOk result (λ q. ⟦<RingBuckets as BucketQueue>⟧.entries q ≡ map.empty) }
-        ensures first { IfOk result (λ q. ⟦<RingBuckets as BucketQueue>⟧.accepts q 0) }
-        ensures suited { IfOk result (λ q. IsSuited snapshot.now (⟦<RingBuckets as BucketQueue>⟧.width q) (⟦<RingBuckets as BucketQueue>⟧.span q)) }
+        ensures fresh { IfOk result (λ ring. IsFresh ring.delta ring.last ring.lists.items delta size) }
     {
-        if let Some(ring) = suited(self.ring.take(), snapshot) {
-            return Ok(ring);
+        if let Some(ring) = self.ring.take() {
+            if ring.is_fresh(delta, size) {
+                return Ok(ring);
+            }
         }
-        let buckets = RingBuckets::new(alloc, snapshot.delta(), size)?;
-        Ok(buckets)
+        let ring = EntryRing::new(alloc, delta, size)?;
+        Ok(ring)
     }
 
-    /// A ring of no node, of buckets of this width: the one that was left, where it is so and has as many lists, else a new one.
-    pub(crate) fn take_ring_of(
+    /// A queue of no node, of buckets of this width: the one that was left, where it is so and has as many lists, else a new one.
+    pub(crate) fn take_queue(
         &mut self,
         alloc: Global,
         delta: u32,
@@ -97,8 +90,8 @@ impl Workspace {
         ensures width { IfOk result (λ q. ⟦<RingBuckets as BucketQueue>⟧.width q ≡ delta) }
         ensures span { IfOk result (λ q. size ≤ ⟦<RingBuckets as BucketQueue>⟧.span q) }
     {
-        if let Some(ring) = fresh(self.ring.take(), delta, size) {
-            return Ok(ring);
+        if let Some(queue) = fresh(self.queue.take(), delta, size) {
+            return Ok(queue);
         }
         let buckets = RingBuckets::new(alloc, delta, size)?;
         Ok(buckets)
@@ -144,24 +137,35 @@ impl Workspace {
         self.values = Some(values);
     }
 
-    /// Keeps what a search took, for the next one.
-    pub(crate) fn keep(&mut self, ring: RingBuckets, remembered: Remembered)
-        ensures ring { ⟦<RingBuckets as BucketQueue>⟧.entries ring ≡ map.empty → IsSome self.new.ring }
+    /// Keeps the ring of a search of so many nodes, for the next one, in place of a queue, unless it has room for more entries than there are nodes, and a
+    /// few a list.
+    pub(crate) fn keep_ring(&mut self, ring: EntryRing, nodes: u32)
+        ensures remembered { self.new.remembered ≡ self.old.remembered }
+    {
+        let few = ring.size().saturating_mul(FEW_PLACES);
+        if ring.places() <= few.saturating_add(nodes as usize) {
+            self.ring = Some(ring);
+            self.queue = None;
+        }
+    }
+
+    /// Keeps the memory of nodes of a search, for the next one.
+    pub(crate) fn keep_remembered(&mut self, remembered: Remembered)
         ensures remembered { self.new.remembered ≡ Some remembered }
     {
-        self.keep_ring(ring);
         self.remembered = Some(remembered);
     }
 
-    /// Keeps the ring of a search, for the next one.
-    pub(crate) fn keep_ring(&mut self, ring: RingBuckets)
-        ensures ring { ⟦<RingBuckets as BucketQueue>⟧.entries ring ≡ map.empty → IsSome self.new.ring }
+    /// Keeps the queue of a search, for the next one, in place of a ring.
+    pub(crate) fn keep_queue(&mut self, queue: RingBuckets)
+        ensures queue { ⟦<RingBuckets as BucketQueue>⟧.entries queue ≡ map.empty → IsSome self.new.queue }
         ensures remembered { self.new.remembered ≡ self.old.remembered }
     {
-        let mut ring = ring;
-        if ring.is_empty() {
-            ring.restart();
-            self.ring = Some(ring);
+        let mut queue = queue;
+        if queue.is_empty() {
+            queue.restart();
+            self.queue = Some(queue);
+            self.ring = None;
         }
     }
 }

@@ -9,7 +9,7 @@ use Rattle.deltastep.proofs.search.Search.empty.Goals as goal
 
 pub add_all-requires : goal.add_all-requires
 add_all-requires g c =
-    let range = nodes_in_range c.args.snapshot.now c.phases.nodes.items c.phases.self.tentative (g.Q.BucketQueue.entries c.phases.self.buckets) c.args.bucket c.phases.invariant.search c.args.snapshot.now.delta c.phases.invariant.nodes in
+    let range = nodes_in_range c.args.snapshot.now c.phases.nodes.items (g.F.Frontier.tentative c.phases.self.frontier) (g.F.Frontier.entries c.phases.self.frontier) c.args.bucket c.phases.invariant.search c.args.snapshot.now.delta c.phases.invariant.nodes in
     record {
       within = subst (λ (l : List ℕ). All (λ u. u < c.phases.remembered.limit) l) (sym c.deref.ensures.value) (λ k d lt. omega (arith, (range k d lt).1, c.phases.invariant.limit));
     }
@@ -20,8 +20,8 @@ phases-preserved g c =
     let nodes = c.phases.nodes.items in
     let remembered : c.add_all.new.self.nodes ≡ remember_all c.phases.remembered.nodes c.phases.nodes.items = c.in_ok-add_all.ensures.added ∙ ap (λ (l : List ℕ). remember_all c.phases.remembered.nodes l) c.deref.ensures.value in
     let ends = c.in_ok-phase.ensures.phase in
-    let owed : IsRelaxedBut c.args.snapshot.now Heavy c.phases.self.tentative (g.Q.BucketQueue.entries c.phases.self.buckets) (remember_all c.phases.remembered.nodes c.phases.nodes.items) = IsRelaxedBut-more c.args.snapshot.now Heavy c.phases.self.tentative (g.Q.BucketQueue.entries c.phases.self.buckets) (c.phases.remembered.nodes ++ c.phases.nodes.items) (remember_all c.phases.remembered.nodes c.phases.nodes.items) (remember_all-both c.phases.remembered.nodes c.phases.nodes.items) c.phases.invariant.heavy in
-    let both : AreInBucket c.phases.self.tentative c.args.snapshot.now.delta c.args.bucket (remember_all c.phases.remembered.nodes c.phases.nodes.items) = AreInBucket-remembered c.phases.self.tentative c.args.snapshot.now.delta c.args.bucket c.phases.remembered.nodes c.phases.nodes.items c.phases.invariant.remembered c.phases.invariant.nodes in
+    let owed : IsRelaxedBut c.args.snapshot.now Heavy (g.F.Frontier.tentative c.phases.self.frontier) (g.F.Frontier.entries c.phases.self.frontier) (remember_all c.phases.remembered.nodes c.phases.nodes.items) = IsRelaxedBut-more c.args.snapshot.now Heavy (g.F.Frontier.tentative c.phases.self.frontier) (g.F.Frontier.entries c.phases.self.frontier) (c.phases.remembered.nodes ++ c.phases.nodes.items) (remember_all c.phases.remembered.nodes c.phases.nodes.items) (remember_all-both c.phases.remembered.nodes c.phases.nodes.items) c.phases.invariant.heavy in
+    let both : AreInBucket (g.F.Frontier.tentative c.phases.self.frontier) c.args.snapshot.now.delta c.args.bucket (remember_all c.phases.remembered.nodes c.phases.nodes.items) = AreInBucket-remembered (g.F.Frontier.tentative c.phases.self.frontier) c.args.snapshot.now.delta c.args.bucket c.phases.remembered.nodes c.phases.nodes.items c.phases.invariant.remembered c.phases.invariant.nodes in
     record {
       search = ends.search;
       reached = λ source h. ends.reached source (c.phases.invariant.reached source h);

@@ -8,35 +8,35 @@ use Rattle.deltastep.proofs.search.Search.meet.Goals.{then-branch, else-branch}
 
 pub loop-request-preserved : goal.loop-request-preserved
 loop-request-preserved g c =
-    let E = g.Q.BucketQueue.entries in
+    let E = g.F.Frontier.entries in
     let first = c.args.self.now in
     let before = c.loop-request.self in
     let after = c.meet_one.new.self in
     let ensures = c.in_ok-meet_one.ensures in
-    let width = g.Q.BucketQueue.width c.args.self.now.buckets in
-    let same : g.Q.BucketQueue.width c.loop-request.self.buckets ≡ g.Q.BucketQueue.width c.args.self.now.buckets = c.loop-request.invariant.width in
+    let width = g.F.Frontier.width c.args.self.now.frontier in
+    let same : g.F.Frontier.width c.loop-request.self.frontier ≡ g.F.Frontier.width c.args.self.now.frontier = c.loop-request.invariant.width in
     let requests = c.args.requests.now in
     let i = c.loop-request.request-index in
     let lt : i < length requests = omega arith in
     let so_far = take i requests in
     let more = take_more requests i (0, 0) lt in
     record {
-      met = subst (λ rs. MeetsRequests c.args.top rs first.tentative (E first.buckets) after.tentative (E after.buckets)) (sym more)
-          (ensures.met so_far first.tentative (E first.buckets) c.loop-request.invariant.met);
+      met = subst (λ rs. MeetsRequests c.args.top rs (g.F.Frontier.tentative first.frontier) (E first.frontier) (g.F.Frontier.tentative after.frontier) (E after.frontier)) (sym more)
+          (ensures.met so_far (g.F.Frontier.tentative first.frontier) (E first.frontier) c.loop-request.invariant.met);
       came_back =
-          let P = HasQueued before.tentative (E before.buckets) (g.Q.BucketQueue.width c.args.self.now.buckets) c.args.bucket in
-          let Q = HasQueued after.tentative (E after.buckets) (g.Q.BucketQueue.width c.args.self.now.buckets) c.args.bucket in
-          let now = subst (λ w. OnTrue c.in_ok-meet_one.field-0 (HasQueued after.tentative (E after.buckets) w c.args.bucket)) same ensures.came_back in
-          let keeps = subst (λ w. HasQueued before.tentative (E before.buckets) w c.args.bucket → HasQueued after.tentative (E after.buckets) w c.args.bucket) same ensures.stays in
+          let P = HasQueued (g.F.Frontier.tentative before.frontier) (E before.frontier) (g.F.Frontier.width c.args.self.now.frontier) c.args.bucket in
+          let Q = HasQueued (g.F.Frontier.tentative after.frontier) (E after.frontier) (g.F.Frontier.width c.args.self.now.frontier) c.args.bucket in
+          let now = subst (λ w. OnTrue c.in_ok-meet_one.field-0 (HasQueued (g.F.Frontier.tentative after.frontier) (E after.frontier) w c.args.bucket)) same ensures.came_back in
+          let keeps = subst (λ w. HasQueued (g.F.Frontier.tentative before.frontier) (E before.frontier) w c.args.bucket → HasQueued (g.F.Frontier.tentative after.frontier) (E after.frontier) w c.args.bucket) same ensures.stays in
           elim c.if-branch.branch [
             | then-branch w ↦ subst (λ b. OnTrue b Q) (sym w.came_back-is) (on_true c.in_ok-meet_one.field-0 Q w.if-branch.true now)
             | else-branch w ↦ subst (λ b. OnTrue b Q) (sym w.came_back-is) (map_true c.loop-request.came_back P Q keeps c.loop-request.invariant.came_back)
           ];
       none_came =
-          let Old = IsBucketEmpty (g.Q.BucketQueue.width c.args.self.now.buckets) c.args.bucket (E first.buckets) in
-          let Before = IsBucketEmpty (g.Q.BucketQueue.width c.args.self.now.buckets) c.args.bucket (E before.buckets) in
-          let After = IsBucketEmpty (g.Q.BucketQueue.width c.args.self.now.buckets) c.args.bucket (E after.buckets) in
-          let now = subst (λ w. OnFalse c.in_ok-meet_one.field-0 (IsBucketEmpty w c.args.bucket (E before.buckets) → IsBucketEmpty w c.args.bucket (E after.buckets))) same ensures.none_came in
+          let Old = IsBucketEmpty (g.F.Frontier.width c.args.self.now.frontier) c.args.bucket (E first.frontier) in
+          let Before = IsBucketEmpty (g.F.Frontier.width c.args.self.now.frontier) c.args.bucket (E before.frontier) in
+          let After = IsBucketEmpty (g.F.Frontier.width c.args.self.now.frontier) c.args.bucket (E after.frontier) in
+          let now = subst (λ w. OnFalse c.in_ok-meet_one.field-0 (IsBucketEmpty w c.args.bucket (E before.frontier) → IsBucketEmpty w c.args.bucket (E after.frontier))) same ensures.none_came in
           elim c.if-branch.branch [
             | then-branch w ↦ subst (λ b. OnFalse b (Old → After)) (sym w.came_back-is) tt
             | else-branch w ↦ subst (λ b. OnFalse b (Old → After)) (sym w.came_back-is)

@@ -6,13 +6,13 @@ use Rattle.deltastep.proofs.search.Search.meet.Given as goal
 -- the requests so far are met
 abbrev pub invariant-loop-request : goal.invariant-loop-request
 invariant-loop-request g l =
-    let queue = g.Q.BucketQueue in
+    let queue = g.F.Frontier in
     record {
-      met : MeetsRequests l.top (take l.request-index l.requests) l.fn.self.tentative (queue.entries l.fn.self.buckets) l.self.tentative (queue.entries l.self.buckets);
-      came_back : OnTrue l.came_back (HasQueued l.self.tentative (queue.entries l.self.buckets) (queue.width l.fn.self.buckets) l.bucket);
-      none_came : OnFalse l.came_back (IsBucketEmpty (queue.width l.fn.self.buckets) l.bucket (queue.entries l.fn.self.buckets) → IsBucketEmpty (queue.width l.fn.self.buckets) l.bucket (queue.entries l.self.buckets));
-      weighs : weight l.top l.self.tentative (queue.entries l.self.buckets) ≤ weight l.top l.fn.self.tentative (queue.entries l.fn.self.buckets);
-      accepts : (v : ℕ) → queue.accepts l.fn.self.buckets v → queue.accepts l.self.buckets v;
-      width : queue.width l.self.buckets ≡ queue.width l.fn.self.buckets;
-      span : queue.span l.self.buckets ≡ queue.span l.fn.self.buckets;
+      met : MeetsRequests l.top (take l.request-index l.requests) (g.F.Frontier.tentative l.fn.self.frontier) (queue.entries l.fn.self.frontier) (g.F.Frontier.tentative l.self.frontier) (queue.entries l.self.frontier);
+      came_back : OnTrue l.came_back (HasQueued (g.F.Frontier.tentative l.self.frontier) (queue.entries l.self.frontier) (queue.width l.fn.self.frontier) l.bucket);
+      none_came : OnFalse l.came_back (IsBucketEmpty (queue.width l.fn.self.frontier) l.bucket (queue.entries l.fn.self.frontier) → IsBucketEmpty (queue.width l.fn.self.frontier) l.bucket (queue.entries l.self.frontier));
+      weighs : weight l.top (g.F.Frontier.tentative l.self.frontier) (queue.entries l.self.frontier) ≤ weight l.top (g.F.Frontier.tentative l.fn.self.frontier) (queue.entries l.fn.self.frontier);
+      accepts : (v : ℕ) → queue.accepts l.fn.self.frontier v → queue.accepts l.self.frontier v;
+      width : queue.width l.self.frontier ≡ queue.width l.fn.self.frontier;
+      span : queue.span l.self.frontier ≡ queue.span l.fn.self.frontier;
     }

@@ -8,8 +8,8 @@ use Rattle.deltastep.proofs.search.Search.relax.Goals as goal
 use Rattle.deltastep.proofs.search.Search.relax.Goals.{In_ok-came_back}
 
 -- what was lowered, in the words of the snapshot
-met : (g : Over) (c : In_ok-came_back g) → MeetsRequests (top_of c.args.snapshot.now) (requests_of c.args.snapshot.now c.args.nodes.now c.args.self.now.tentative c.args.part) c.args.self.now.tentative (g.Q.BucketQueue.entries c.args.self.now.buckets) c.ask.new.self.tentative (g.Q.BucketQueue.entries c.ask.new.self.buckets)
-met g c = subst (λ n. MeetsRequests n (requests_of c.args.snapshot.now c.args.nodes.now c.args.self.now.tentative c.args.part) c.args.self.now.tentative (g.Q.BucketQueue.entries c.args.self.now.buckets) c.ask.new.self.tentative (g.Q.BucketQueue.entries c.ask.new.self.buckets)) c.top-top.ensures.value c.in_ok-came_back.ensures.met
+met : (g : Over) (c : In_ok-came_back g) → MeetsRequests (top_of c.args.snapshot.now) (requests_of c.args.snapshot.now c.args.nodes.now (g.F.Frontier.tentative c.args.self.now.frontier) c.args.part) (g.F.Frontier.tentative c.args.self.now.frontier) (g.F.Frontier.entries c.args.self.now.frontier) (g.F.Frontier.tentative c.ask.new.self.frontier) (g.F.Frontier.entries c.ask.new.self.frontier)
+met g c = subst (λ n. MeetsRequests n (requests_of c.args.snapshot.now c.args.nodes.now (g.F.Frontier.tentative c.args.self.now.frontier) c.args.part) (g.F.Frontier.tentative c.args.self.now.frontier) (g.F.Frontier.entries c.args.self.now.frontier) (g.F.Frontier.tentative c.ask.new.self.frontier) (g.F.Frontier.entries c.ask.new.self.frontier)) c.top-top.ensures.value c.in_ok-came_back.ensures.met
 
 pub returns-clause-search : goal.returns-clause-search
 returns-clause-search g c = IsSearch-lowered c.args.snapshot.now c.args.nodes.now c.args.part _ _ _ _ (met g (goal.at.returns-clause-search g c).In_ok-came_back) c.args.bucket c.top-top.ensures.grouped c.requires.nodes c.requires.search

@@ -14,16 +14,16 @@ relax-requires-2-clause-once g c _ = IsDistinct-one c.args.node
 
 pub returns-clause-relaxed : goal.returns-clause-relaxed
 returns-clause-relaxed g c =
-    let E = g.Q.BucketQueue.entries in
-    IsRelaxedBut-both c.args.snapshot.now c.args.bucket c.args.node c.args.self.now.tentative (E c.args.self.now.buckets) c.relax.new.self.tentative (E c.relax.new.self.buckets) c.relax-2.new.self.tentative (E c.relax-2.new.self.buckets) c.in_ok-came_back.ensures.met c.in_ok-relax.ensures.met c.requires.node (c.in_ok-came_back.ensures.stays (c.args.node ∷ []) c.requires.node)
+    let E = g.F.Frontier.entries in
+    IsRelaxedBut-both c.args.snapshot.now c.args.bucket c.args.node (g.F.Frontier.tentative c.args.self.now.frontier) (E c.args.self.now.frontier) (g.F.Frontier.tentative c.relax.new.self.frontier) (E c.relax.new.self.frontier) (g.F.Frontier.tentative c.relax-2.new.self.frontier) (E c.relax-2.new.self.frontier) c.in_ok-came_back.ensures.met c.in_ok-relax.ensures.met c.requires.node (c.in_ok-came_back.ensures.stays (c.args.node ∷ []) c.requires.node)
 
 pub returns-clause-stays : goal.returns-clause-stays
 returns-clause-stays g c others h = c.in_ok-relax.ensures.stays others (c.in_ok-came_back.ensures.stays others h)
 
 pub returns-clause-none_came : goal.returns-clause-none_came
 returns-clause-none_came g c =
-    let E = g.Q.BucketQueue.entries in
+    let E = g.F.Frontier.entries in
     let groups = c.args.snapshot.now in
     let empty = IsBucketEmpty groups.delta c.args.bucket in
-    map_false c.in_ok-came_back.came_back (empty (E c.args.self.now.buckets) → empty (E c.relax.new.self.buckets)) (empty (E c.args.self.now.buckets) → empty (E c.relax-2.new.self.buckets))
-    (λ stays before. IsBucketEmpty-heavy groups c.in_ok-relax.ensures.grouped (c.args.node ∷ []) Heavy c.relax.new.self.tentative (E c.relax.new.self.buckets) c.relax-2.new.self.tentative (E c.relax-2.new.self.buckets) c.args.bucket c.in_ok-relax.ensures.met (c.in_ok-came_back.ensures.stays (c.args.node ∷ []) c.requires.node) refl (stays before)) c.in_ok-came_back.ensures.none_came
+    map_false c.in_ok-came_back.came_back (empty (E c.args.self.now.frontier) → empty (E c.relax.new.self.frontier)) (empty (E c.args.self.now.frontier) → empty (E c.relax-2.new.self.frontier))
+    (λ stays before. IsBucketEmpty-heavy groups c.in_ok-relax.ensures.grouped (c.args.node ∷ []) Heavy (g.F.Frontier.tentative c.relax.new.self.frontier) (E c.relax.new.self.frontier) (g.F.Frontier.tentative c.relax-2.new.self.frontier) (E c.relax-2.new.self.frontier) c.args.bucket c.in_ok-relax.ensures.met (c.in_ok-came_back.ensures.stays (c.args.node ∷ []) c.requires.node) refl (stays before)) c.in_ok-came_back.ensures.none_came

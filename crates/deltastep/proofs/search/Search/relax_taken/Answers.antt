@@ -7,11 +7,11 @@ use Rattle.deltastep.proofs.search.Search.relax_taken.Goals as goal
 use Rattle.deltastep.proofs.search.Search.relax_taken.Goals.{then-branch, else-branch}
 
 pub relax_legs-requires-clause-node : goal.relax_legs-requires-clause-node
-relax_legs-requires-clause-node g c = AreInBucket-one c.loop-node.self.tentative c.args.snapshot.now.delta c.args.bucket c.args.nodes.now c.loop-node.node-index _ (omega arith) c.loop-node.invariant.nodes
+relax_legs-requires-clause-node g c = AreInBucket-one (g.F.Frontier.tentative c.loop-node.self.frontier) c.args.snapshot.now.delta c.args.bucket c.args.nodes.now c.loop-node.node-index _ (omega arith) c.loop-node.invariant.nodes
 
 pub loop-node-preserved : goal.loop-node-preserved
 loop-node-preserved g c =
-    let E = g.Q.BucketQueue.entries in
+    let E = g.F.Frontier.entries in
     let groups = c.args.snapshot.now in
     let nodes = c.args.nodes.now in
     let i = c.loop-node.node-index in
@@ -22,12 +22,12 @@ loop-node-preserved g c =
     record {
       search = ensures.search;
       reached = λ source h. ensures.reached source (c.loop-node.invariant.reached source h);
-      owed = λ part. ensures.relaxed part (drop (i + 1) nodes) (owed_first groups part before.tentative (E before.buckets) nodes i 0 lt (c.loop-node.invariant.owed part));
+      owed = λ part. ensures.relaxed part (drop (i + 1) nodes) (owed_first groups part (g.F.Frontier.tentative before.frontier) (E before.frontier) nodes i 0 lt (c.loop-node.invariant.owed part));
       nodes = ensures.stays nodes c.loop-node.invariant.nodes;
       none_came =
-          let Old = IsBucketEmpty groups.delta c.args.bucket (E c.args.self.now.buckets) in
-          let Before = IsBucketEmpty groups.delta c.args.bucket (E before.buckets) in
-          let After = IsBucketEmpty groups.delta c.args.bucket (E after.buckets) in
+          let Old = IsBucketEmpty groups.delta c.args.bucket (E c.args.self.now.frontier) in
+          let Before = IsBucketEmpty groups.delta c.args.bucket (E before.frontier) in
+          let After = IsBucketEmpty groups.delta c.args.bucket (E after.frontier) in
           elim c.if-branch.branch [
             | then-branch w ↦ subst (λ b. OnFalse b (Old → After)) (sym w.came_back-is) tt
             | else-branch w ↦ subst (λ b. OnFalse b (Old → After)) (sym w.came_back-is)
@@ -39,4 +39,4 @@ loop-node-preserved g c =
     }
 
 pub returns-clause-relaxed : goal.returns-clause-relaxed
-returns-clause-relaxed g c part = owed_none c.args.snapshot.now part c.loop-node.self.tentative (g.Q.BucketQueue.entries c.loop-node.self.buckets) c.args.nodes.now c.loop-node.node-index (omega arith) (c.loop-node.invariant.owed part)
+returns-clause-relaxed g c part = owed_none c.args.snapshot.now part (g.F.Frontier.tentative c.loop-node.self.frontier) (g.F.Frontier.entries c.loop-node.self.frontier) c.args.nodes.now c.loop-node.node-index (omega arith) (c.loop-node.invariant.owed part)

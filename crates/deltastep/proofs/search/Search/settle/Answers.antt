@@ -17,8 +17,8 @@ relax-requires-2-clause-once g c _ = subst (λ (l : List ℕ). IsDistinct eqb l)
 pub returns-clause-settled : goal.returns-clause-settled
 returns-clause-settled g c =
     let relaxed = c.in_ok-relax-2.ensures in
-    let met = subst (λ nodes. MeetsRequests (top_of c.args.snapshot.now) (requests_of c.args.snapshot.now nodes c.empty.new.self.tentative Heavy) c.empty.new.self.tentative (g.Q.BucketQueue.entries c.empty.new.self.buckets) c.relax-2.new.self.tentative (g.Q.BucketQueue.entries c.relax-2.new.self.buckets)) c.nodes.ensures.value relaxed.met in
-    EmptiesBucket-relaxed c.args.snapshot.now c.args.bucket c.empty.new.remembered.nodes c.args.self.now.tentative c.empty.new.self.tentative (g.Q.BucketQueue.entries c.empty.new.self.buckets) c.relax-2.new.self.tentative (g.Q.BucketQueue.entries c.relax-2.new.self.buckets) relaxed.grouped c.in_ok-empty.ensures.emptied met relaxed.search relaxed.reached
+    let met = subst (λ nodes. MeetsRequests (top_of c.args.snapshot.now) (requests_of c.args.snapshot.now nodes (g.F.Frontier.tentative c.empty.new.self.frontier) Heavy) (g.F.Frontier.tentative c.empty.new.self.frontier) (g.F.Frontier.entries c.empty.new.self.frontier) (g.F.Frontier.tentative c.relax-2.new.self.frontier) (g.F.Frontier.entries c.relax-2.new.self.frontier)) c.nodes.ensures.value relaxed.met in
+    EmptiesBucket-relaxed c.args.snapshot.now c.args.bucket c.empty.new.remembered.nodes (g.F.Frontier.tentative c.args.self.now.frontier) (g.F.Frontier.tentative c.empty.new.self.frontier) (g.F.Frontier.entries c.empty.new.self.frontier) (g.F.Frontier.tentative c.relax-2.new.self.frontier) (g.F.Frontier.entries c.relax-2.new.self.frontier) relaxed.grouped c.in_ok-empty.ensures.emptied met relaxed.search relaxed.reached
 
 pub returns-clause-none : goal.returns-clause-none
 returns-clause-none g c = memory_is c.clear.new.self _ _ (c.clear.ensures.limit ∙ c.in_ok-empty.ensures.limit) c.clear.ensures.none
@@ -35,7 +35,7 @@ returns-then-is_alone-clause-settled g c =
     let groups = c.args.snapshot.now in
     let relaxed = c.in_ok-relax.ensures in
     let nodes = c.args.taken.now.items in
-    let met = subst (λ nodes. MeetsRequests (top_of groups) (requests_of groups nodes c.args.self.now.tentative Heavy) c.args.self.now.tentative (g.Q.BucketQueue.entries c.args.self.now.buckets) c.relax.new.self.tentative (g.Q.BucketQueue.entries c.relax.new.self.buckets)) c.deref-then-is_alone.ensures.value relaxed.met in
+    let met = subst (λ nodes. MeetsRequests (top_of groups) (requests_of groups nodes (g.F.Frontier.tentative c.args.self.now.frontier) Heavy) (g.F.Frontier.tentative c.args.self.now.frontier) (g.F.Frontier.entries c.args.self.now.frontier) (g.F.Frontier.tentative c.relax.new.self.frontier) (g.F.Frontier.entries c.relax.new.self.frontier)) c.deref-then-is_alone.ensures.value relaxed.met in
     let none : (u : ℕ) → Contains nodes u → legs_of groups Light u ≡ [] = λ u h. on_true c.is_alone.result _ c.if-is_alone.true c.is_alone.ensures.light u (subst (λ (l : List ℕ). Contains l u) (sym c.deref.ensures.value) h) in
-    let emptied = EmptiesBucket-taken groups c.args.bucket nodes c.args.self.now.tentative (g.Q.BucketQueue.entries c.args.self.now.buckets) none c.requires.search c.requires.light c.requires.heavy c.requires.taken c.requires.emptied in
-    EmptiesBucket-relaxed groups c.args.bucket nodes c.args.self.now.tentative c.args.self.now.tentative (g.Q.BucketQueue.entries c.args.self.now.buckets) c.relax.new.self.tentative (g.Q.BucketQueue.entries c.relax.new.self.buckets) relaxed.grouped emptied met relaxed.search relaxed.reached
+    let emptied = EmptiesBucket-taken groups c.args.bucket nodes (g.F.Frontier.tentative c.args.self.now.frontier) (g.F.Frontier.entries c.args.self.now.frontier) none c.requires.search c.requires.light c.requires.heavy c.requires.taken c.requires.emptied in
+    EmptiesBucket-relaxed groups c.args.bucket nodes (g.F.Frontier.tentative c.args.self.now.frontier) (g.F.Frontier.tentative c.args.self.now.frontier) (g.F.Frontier.entries c.args.self.now.frontier) (g.F.Frontier.tentative c.relax.new.self.frontier) (g.F.Frontier.entries c.relax.new.self.frontier) relaxed.grouped emptied met relaxed.search relaxed.reached

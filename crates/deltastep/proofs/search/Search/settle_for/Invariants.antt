@@ -4,11 +4,11 @@ use Rattle.deltastep.proofs.search.Search.settle_for.Given as goal
 
 abbrev pub invariant-buckets : goal.invariant-buckets
 invariant-buckets g l =
-    let queue = g.Q.BucketQueue in
+    let queue = g.F.Frontier in
     record {
-      state : (source : ℕ) → IsBetweenBuckets l.snapshot source l.fn.self.tentative (queue.entries l.fn.self.buckets) → IsBetweenBuckets l.snapshot source l.self.tentative (queue.entries l.self.buckets);
-      suited : IsSuited l.snapshot (queue.width l.self.buckets) (queue.span l.self.buckets);
+      state : (source : ℕ) → IsBetweenBuckets l.snapshot source (g.F.Frontier.tentative l.fn.self.frontier) (queue.entries l.fn.self.frontier) → IsBetweenBuckets l.snapshot source (g.F.Frontier.tentative l.self.frontier) (queue.entries l.self.frontier);
+      suited : IsSuited l.snapshot (queue.width l.self.frontier) (queue.span l.self.frontier);
     }
 
 abbrev pub decreases-buckets : goal.decreases-buckets
-decreases-buckets g l = weight (top_of l.snapshot) l.self.tentative (g.Q.BucketQueue.entries l.self.buckets)
+decreases-buckets g l = weight (top_of l.snapshot) (g.F.Frontier.tentative l.self.frontier) (g.F.Frontier.entries l.self.frontier)

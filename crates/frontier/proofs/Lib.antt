@@ -1,0 +1,3 @@
+pub mod EntryLists
+pub mod Live
+pub mod Taking

@@ -1,0 +1,204 @@
+//! Entries in a ring of lists, by the buckets of their values.
+
+ghost use Rattle.std.specs.Prelude.{◌≡◌, ◌≢◌, ℕ, ◌<◌, ◌≤◌, ◌/◌, ◌%◌, [], set, OnOk, OnErr, IfOk, MatchOption, length};
+ghost use Rattle.buckets.specs.Rings.{IsWithin};
+ghost use Rattle.std.specs.Bool.{OnTrue};
+ghost use Rattle.frontier.specs.Entries.{AreInPlace, AreMarked, IsAdded, IsFresh, TakesFirst, entries_at, entry_count};
+
+use buckets::{Places, buckets_between, next_marked};
+use std::alloc::{AllocError, Global};
+use std::mem::swap;
+
+/// As many empty lists.
+fn empty_lists(alloc: Global, size: u32) -> Result<Vec<Vec<(u32, u64)>>, AllocError>
+    ensures len { IfOk result (λ lists. length lists.items ≡ size) }
+    ensures empty { IfOk result (λ lists. (p : ℕ) → entries_at lists.items p ≡ []) }
+{
+    let mut lists = Vec::with_capacity(alloc, size as usize)?;
+    for _place in 0..size {
+        lists.push(Vec::new(alloc))?;
+    }
+    Ok(lists)
+}
+
+/// Adds the entry at the end of the list. After want of memory each list is as it was.
+#[inline(always)]
+fn push(
+    lists: &mut Vec<Vec<(u32, u64)>>,
+    list: usize,
+    node: u32,
+    value: u64,
+) -> Result<(), AllocError>
+    requires { list < length lists.old.items }
+    ensures added { OnOk result (IsAdded lists.old.items lists.new.items list (node, value)) }
+    ensures err { OnErr result ((p : ℕ) → entries_at lists.new.items p ≡ entries_at lists.old.items p) }
+    ensures len { length lists.new.items ≡ length lists.old.items }
+{
+    lists[list].push((node, value))?;
+    Ok(())
+}
+
+/// Exchanges the entries of the list for these.
+#[inline(always)]
+fn exchange(lists: &mut Vec<Vec<(u32, u64)>>, list: usize, entries: &mut Vec<(u32, u64)>)
+    requires { list < length lists.old.items }
+    ensures lists { lists.new.items ≡ set lists.old.items list entries.old }
+    ensures entries { entries.new.items ≡ entries_at lists.old.items list }
+{
+    swap(&mut lists[list], entries);
+}
+
+/// Entries, a node with a value each, in a ring of lists: bucket `b` has the list at the place that is the remainder of `b` by the number of
+/// lists. An entry stands where it was added until its bucket is taken. It takes 24 bytes a list, and 16 for each place of a list that was
+/// ever in use at once.
+#[derive(Drop)]
+pub struct EntryRing {
+    pub(crate) delta: u32,
+    pub(crate) last: u64,
+    first: usize,
+    pub(crate) lists: Vec<Vec<(u32, u64)>>,
+    marks: Places,
+    ghost positive: { 1 ≤ delta },
+    ghost some: { 1 ≤ length lists.items },
+    ghost begins: { first ≡ last % length lists.items },
+    ghost marked: { AreMarked lists.items marks },
+    ghost within: { AreInPlace delta last lists.items },
+}
+
+impl EntryRing {
+    /// A ring of no entry, of `size` buckets in a row from bucket 0 on, each of which spans `delta` values. The error is that no memory was
+    /// given.
+    pub fn new(alloc: Global, delta: u32, size: u32) -> Result<EntryRing, AllocError>
+        requires positive { 1 ≤ delta }
+        requires some { 1 ≤ size }
+        requires few { size ≤ 65536 }
+        ensures width { IfOk result (λ ring. ring.delta ≡ delta) }
+        ensures last { IfOk result (λ ring. ring.last ≡ 0) }
+        ensures size { IfOk result (λ ring. length ring.lists.items ≡ size) }
+        ensures empty { IfOk result (λ ring. (p : ℕ) → entries_at ring.lists.items p ≡ []) }
+    {
+        let lists = empty_lists(alloc, size)?;
+        let marks = Places::new(alloc, size)?;
+        Ok(EntryRing {
+            delta,
+            last: 0,
+            first: 0,
+            lists,
+            marks,
+        })
+    }
+
+    /// How many entries its lists have room for, up to the greatest number there is.
+    pub fn places(&self) -> usize {
+        let mut places: usize = 0;
+        for list in &self.lists {
+            places = places.saturating_add(list.capacity());
+        }
+        places
+    }
+
+    /// Whether a search can begin with it that asks for buckets of this width, and for so many in a row: it has no entry, bucket 0 is the first
+    /// that fits, and there are as many lists.
+    pub fn is_fresh(&self, delta: u32, size: u32) -> bool
+        ensures { OnTrue result (IsFresh self.now.delta self.now.last self.now.lists.items delta size) }
+    {
+        if self.delta != delta || self.last != 0 || self.size() < size as usize {
+            return false;
+        }
+        let Some(_place) = self.marks.first() else {
+            return true;
+        };
+        false
+    }
+
+    /// Begins anew with bucket 0, where there is no entry.
+    fn restart(&mut self)
+        requires none { (p : ℕ) → entries_at self.old.lists.items p ≡ [] }
+        ensures fresh { IsFresh self.new.delta self.new.last self.new.lists.items self.old.delta (length self.old.lists.items) }
+    {
+        self.last = 0;
+        self.first = 0;
+    }
+
+    /// Takes out all entries, in exchange for a list that is empty, and begins anew with bucket 0. It takes time for the lists that have entries.
+    pub fn empty(&mut self, spare: &mut Vec<(u32, u64)>)
+        requires none { spare.old.items ≡ [] }
+        ensures fresh { IsFresh self.new.delta self.new.last self.new.lists.items self.old.delta (length self.old.lists.items) }
+    {
+        'lists: while let Some(_bucket) = self.take(spare) {
+            spare.clear();
+        }
+        self.restart();
+    }
+
+    /// How many values a bucket spans.
+    #[inline(always)]
+    pub fn delta(&self) -> u32
+        ensures value { result ≡ self.now.delta }
+        ensures positive { 1 ≤ self.now.delta }
+    {
+        self.delta
+    }
+
+    /// How many lists there are.
+    #[inline(always)]
+    pub fn size(&self) -> usize
+        ensures { result ≡ length self.now.lists.items }
+    {
+        self.lists.len()
+    }
+
+    /// The place of the list of a value that fits.
+    #[inline(always)]
+    fn place(&self, value: u64) -> usize
+        requires { IsWithin self.now.last (length self.now.lists.items) (value / self.now.delta) }
+        ensures { result ≡ (value / self.now.delta) % length self.now.lists.items }
+    {
+        let ahead = buckets_between(self.delta, self.last, value) as usize;
+        let place = self.first + ahead;
+        let size = self.size();
+        if place < size { place } else { place - size }
+    }
+
+    /// Adds an entry, in O(1) amortized. After want of memory the entries are as they were.
+    #[inline(always)]
+    pub fn add(&mut self, node: u32, value: u64) -> Result<(), AllocError>
+        requires fits { IsWithin self.old.last (length self.old.lists.items) (value / self.old.delta) }
+        ensures ok { OnOk result (IsAdded self.old.lists.items self.new.lists.items ((value / self.old.delta) % length self.old.lists.items) (node, value)) }
+        ensures err { OnErr result ((p : ℕ) → entries_at self.new.lists.items p ≡ entries_at self.old.lists.items p) }
+        ensures size { length self.new.lists.items ≡ length self.old.lists.items }
+        ensures width { self.new.delta ≡ self.old.delta }
+        ensures last { self.new.last ≡ self.old.last }
+    {
+        let place = self.place(value);
+        push(&mut self.lists, place, node, value)?;
+        self.marks.insert(place);
+        Ok(())
+    }
+
+    /// Takes all entries of the least bucket that has any, in exchange for a list that is empty, and gives the bucket's number; nothing where
+    /// there is no entry. From then on the values of as many buckets fit as there are lists, from that bucket on.
+    #[inline(always)]
+    pub fn take(&mut self, entries: &mut Vec<(u32, u64)>) -> Option<u64>
+        requires none { entries.old.items ≡ [] }
+        ensures taken { MatchOption result ((p : ℕ) → entries_at self.old.lists.items p ≡ []) (λ b. TakesFirst self.old.delta self.old.lists.items self.new.lists.items b entries.new.items) }
+        ensures last { MatchOption result (self.new.last ≡ self.old.last) (λ b. self.new.last ≡ b) }
+        ensures far { MatchOption result (Unit {0}) (λ b. self.old.last ≤ b) }
+        ensures unused { MatchOption result (entries.new ≡ entries.old) (λ _. Unit {0}) }
+        ensures none { MatchOption result (self.new.lists ≡ self.old.lists) (λ _. entry_count self.new.lists.items < entry_count self.old.lists.items) }
+        ensures over { MatchOption result ((p : ℕ) → entries_at self.new.lists.items p ≡ []) (λ _. Unit {0}) }
+        ensures size { length self.new.lists.items ≡ length self.old.lists.items }
+        ensures width { self.new.delta ≡ self.old.delta }
+    {
+        let Some(_some) = self.marks.first() else {
+            return None;
+        };
+        let size = self.size();
+        let (bucket, place) = next_marked(&self.marks, size, self.last, self.first);
+        exchange(&mut self.lists, place, entries);
+        self.marks.remove(place);
+        self.last = bucket;
+        self.first = place;
+        Some(bucket)
+    }
+}

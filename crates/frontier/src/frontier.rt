@@ -1,0 +1,62 @@
+ghost use Rattle.std.specs.Prelude.{◌≡◌, ℕ, ◌≤◌, ◌<◌, ◌/◌, ◌+◌, ◌^◌, List, [], Option, Some, IfOk, MatchBool, MatchOption, length, slice_set};
+ghost use Rattle.std.specs.FinMap as map;
+ghost use Rattle.relax.specs.Values.{value_or};
+ghost use Rattle.buckets.specs.Queue.{Entries};
+ghost use Rattle.frontier.specs.Frontier.{TakesAny};
+
+use relax::Tentative;
+use std::alloc::AllocError;
+
+/// What a search by values keeps: the tentative value of each node that has one, and the nodes that are queued, in buckets by that value: bucket
+/// `b` has the nodes whose value has the quotient `b` by `delta`. A frontier may have a window, as a `BucketQueue` has.
+///
+/// After an `Err` it is not used again.
+pub trait Frontier {
+    /// The tentative value of each node, from number 0 on.
+    ghost tentative: { Self → List (Option ℕ) };
+
+    /// The value of each node that is queued.
+    ghost entries: { Self → Entries };
+
+    /// How many values a bucket spans.
+    ghost width: { Self → ℕ };
+
+    /// How many buckets in a row fit.
+    ghost span: { Self → ℕ };
+
+    /// The values that fit now.
+    ghost accepts: { Self → ℕ → Type 0 };
+
+    /// How many values a bucket spans, at least 1.
+    fn delta(&self) -> u32
+        ensures value { result ≡ width self.now }
+        ensures positive { 1 ≤ width self.now };
+
+    /// The tentative values.
+    fn values(&self) -> &Tentative
+        ensures value { result.now ≡ tentative self.now };
+
+    /// Lowers a node's value to the given one, if that is below `top` and the value so far, and queues the node. Tells whether it did.
+    fn lower(&mut self, top: u64, node: u32, value: u64) -> Result<bool, AllocError>
+        requires node { (1 ≤ node) × (node < length (tentative self.old)) }
+        requires fits { accepts self.old value }
+        requires small { top ≤ 2 ^ 56 }
+        ensures lowered { IfOk result (λ lowers. MatchBool lowers (value < value_or top (tentative self.old) node) (value_or top (tentative self.old) node ≤ value)) }
+        ensures tentative { IfOk result (λ lowers. MatchBool lowers (tentative self.new ≡ slice_set (tentative self.old) node (Some value)) (tentative self.new ≡ tentative self.old)) }
+        ensures queued { IfOk result (λ lowers. MatchBool lowers (entries self.new ≡ map.insert (entries self.old) node value) (entries self.new ≡ entries self.old)) }
+        ensures accepts { (v : ℕ) → accepts self.old v → accepts self.new v }
+        ensures width { width self.new ≡ width self.old }
+        ensures span { span self.new ≡ span self.old };
+
+    /// Takes out all nodes of the least bucket that is not empty, each once, in any order, into a list of the caller's, and gives the bucket's
+    /// number; nothing where no node is queued. What was in the list is gone. From then on all values of as many buckets fit as the window
+    /// says, from that one on.
+    fn take_least_into(&mut self, nodes: &mut Vec<u32>) -> Result<Option<u64>, AllocError>
+        ensures taken { IfOk result (λ taken. MatchOption taken (entries self.old ≡ map.empty) (λ bucket. TakesAny (width self.old) (entries self.old) bucket nodes.new.items (entries self.new))) }
+        ensures none { IfOk result (λ taken. MatchOption taken (nodes.new.items ≡ []) (λ _. Unit {0})) }
+        ensures window { IfOk result (λ taken. MatchOption taken (Unit {0}) (λ bucket. (v : ℕ) → bucket ≤ v / width self.old → v / width self.old < bucket + span self.old → accepts self.new v)) }
+        ensures kept { IfOk result (λ taken. MatchOption taken (entries self.new ≡ entries self.old) (λ _. Unit {0})) }
+        ensures tentative { tentative self.new ≡ tentative self.old }
+        ensures width { width self.new ≡ width self.old }
+        ensures span { span self.new ≡ span self.old };
+}

@@ -1,0 +1,13 @@
+//! The frontier of a search: tentative values, and the nodes whose legs are still to be relaxed, in buckets by value.
+#![tactic(auto)]
+
+mod entries;
+mod frontier;
+mod lazy;
+mod lower;
+mod queued;
+
+pub use entries::EntryRing;
+pub use frontier::Frontier;
+pub use lazy::LazyRing;
+pub use queued::Queued;

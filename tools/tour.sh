@@ -69,6 +69,7 @@ echo "$steps commands of the tours, $wrong with another output"
 
 "$top/tools/compare_help.sh" "$program" || wrong=$((wrong + 1))
 "$top/tools/compare_clauses.py" || wrong=$((wrong + 1))
+"$top/tools/compare_reached.py" || wrong=$((wrong + 1))
 "$top/tools/compare_quotations.py" || wrong=$((wrong + 1))
 "$top/tools/check_pages.py" || wrong=$((wrong + 1))
 "$top/tools/try_wrong_bodies.py" --fit || wrong=$((wrong + 1))

@@ -88,18 +88,4 @@ impl Front {
             seen: both,
         }
     }
-
-    /// The longer of two beginnings of one history, which the other begins.
-    pub fn longer(&self, other: &Front) -> Front
-        requires { other.now.origin ≡ self.now.origin }
-        ensures one { (result ≡ self.now) ⊎ (result ≡ other.now) }
-        ensures this { IsPrefix self.now.groups result.groups }
-        ensures that { IsPrefix other.now.groups result.groups }
-    {
-        if self.begins(other) {
-            other.again()
-        } else {
-            self.again()
-        }
-    }
 }

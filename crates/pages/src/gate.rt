@@ -1,5 +1,5 @@
 ghost use Rattle.std.specs.Prelude.{◌≡◌, slice_index};
-ghost use Rattle.pages.specs.Gates.{gate_of, gate_byte, open_number};
+ghost use Rattle.pages.specs.Gates.{gate_of, open_number};
 
 use crate::writer::PAGE_SIZE;
 use byteorder::{BigEndian, ByteOrder};
@@ -24,16 +24,6 @@ impl Gate {
             Gate::Open
         } else {
             Gate::Closed
-        }
-    }
-
-    /// The byte by which this gate is written: 0xA5, or 0.
-    pub fn byte(self) -> u8
-        ensures { result ≡ gate_byte self }
-    {
-        match self {
-            Gate::Open => OPEN,
-            Gate::Closed => 0,
         }
     }
 }

@@ -41,13 +41,6 @@ impl Model for JournalPage {
 }
 
 impl JournalPage {
-    /// The page's sequence: pages have 0, 1, and so on.
-    pub fn sequence(&self) -> u64
-        ensures { result ≡ self.now.sequence }
-    {
-        self.sequence
-    }
-
     /// The number of its first group.
     pub fn first_number(&self) -> u64
         ensures { result ≡ self.now.first_number }

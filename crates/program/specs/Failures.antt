@@ -138,6 +138,10 @@ IsFileUnmade failed = (failed ≡ unopened 2) ⊎ ((failed ≡ Code Device) ⊎ 
 abbrev pub IsTextUnmade : Failed → Type 0
 IsTextUnmade failed = (failed ≡ Code NotEmpty) ⊎ IsUnopened 1 failed
 
+-- the texts of a network are not written out: one has no new file, or one could not be written or made durable
+abbrev pub IsTextUnwritten : Failed → Type 0
+IsTextUnwritten failed = IsTextUnmade failed ⊎ (failed ≡ Code Device)
+
 -- the new store is there, whether or not this could be told
 abbrev pub IsStoreMade : {T : Type 0} → Result T Failed → Type 0
 IsStoreMade outcome = MatchResult outcome (λ _. ⊤) (λ failed. failed ≡ Code Write)

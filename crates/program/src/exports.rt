@@ -1,6 +1,7 @@
 //! The files in which a store's network is written out.
-ghost use Rattle.std.specs.Prelude.{◌≡◌, IfErr};
-ghost use Rattle.program.specs.Failures.{unopened, IsTextUnmade};
+ghost use Rattle.std.specs.Prelude.{◌≡◌, IfOk, IfErr};
+ghost use Rattle.program.specs.Failures.{unopened, IsTextUnmade, IsTextUnwritten};
+ghost use Rattle.printing.specs.declared.exports.Exported.TheVariants.{Network, Landmarks, Closings};
 
 use crate::files::{buffered_writer, unopened};
 use disk::Disk;
@@ -91,11 +92,12 @@ fn make_file<R: Files<File = File>>(rt: &R, path: &PathBuf) -> io::Result<File> 
     options.open(rt, path.as_path())
 }
 
-/// The file of a text, which was made for it.
+/// The file of a text, which was made for it: its name is that of this text, and this text is written into it.
 #[derive(Drop)]
 struct TextFile {
     path: PathBuf,
     file: File,
+    text: Exported,
 }
 
 impl TextFile {
@@ -107,43 +109,65 @@ impl TextFile {
         folder: &str,
         text: Exported,
     ) -> Result<TextFile, Failed>
-        ensures { IfErr result IsTextUnmade }
+        ensures text { IfOk result (λ made. made.text ≡ text) }
+        ensures refused { IfErr result IsTextUnmade }
     {
         let Ok(path) = path_of(rt.alloc(), folder, text) else {
             return Err(Failed::Code(Refusal::OutOfMemory));
         };
         match make_file(rt, &path) {
-            Ok(file) => Ok(TextFile { path, file }),
+            Ok(file) => Ok(TextFile { path, file, text }),
             Err(error) => Err(unmade(progress, path.as_str(), &error)),
         }
     }
 
-    /// Writes the text into the file.
+    /// Makes the file of a text behind these, which are removed where it is not made.
+    fn make_behind<R: AllocGlobal + Eprint + Files<File = File>>(
+        rt: &R,
+        progress: &Progress<'_, R>,
+        folder: &str,
+        text: Exported,
+        made: &[&TextFile],
+    ) -> Result<TextFile, Failed>
+        ensures text { IfOk result (λ made. made.text ≡ text) }
+        ensures refused { IfErr result IsTextUnmade }
+    {
+        let outcome = TextFile::make(rt, progress, folder, text);
+        if outcome.is_err() {
+            for file in made {
+                file.remove(rt);
+            }
+        }
+        outcome
+    }
+
+    /// Writes the text of a store's network into the file.
     fn write<R: Clock + Eprint, D: Disk>(
         &self,
         alloc: Global,
         progress: &Progress<'_, R>,
         store: &Store<D>,
-        text: Exported,
-    ) -> Result<(), Failed> {
+    ) -> Result<(), Failed>
+        ensures { IfErr result IsTextUnwritten }
+    {
         let file = TellingWriter::new(progress, self.path.as_str(), &self.file);
         let mut writer = buffered_writer(alloc, file)?;
-        let mut writer = CountedWriter::new(&mut writer);
-        match export_text(store, text, &mut writer) {
+        match export_text(store, self.text, &mut CountedWriter::new(&mut writer)) {
             Ok(()) => Ok(()),
             Err(_) => Err(Failed::Code(Refusal::Device)),
         }
     }
 
-    /// Writes the text into the file, which is synced. What fails is told as 43: 12 tells that all is done, and only its line is not told.
+    /// Writes the text of a store's network into the file, which is synced. What fails is told as 43: 12 tells that all is done, and only its line is not told.
     fn fill<R: Clock + Eprint, D: Disk>(
         &self,
         alloc: Global,
         progress: &Progress<'_, R>,
         store: &Store<D>,
-        text: Exported,
-    ) -> Result<(), Failed> {
-        self.write(alloc, progress, store, text)?;
+    ) -> Result<(), Failed>
+        ensures { IfErr result IsTextUnwritten }
+    {
+        self.write(alloc, progress, store)?;
         match self.file.sync_all() {
             Ok(()) => Ok(()),
             Err(_) => Err(Failed::Code(Refusal::Device)),
@@ -158,57 +182,18 @@ impl TextFile {
 
 /// The files of the three texts, which were made for them.
 #[derive(Drop)]
-pub struct TextFiles {
+struct TextFiles {
     network: TextFile,
     landmarks: TextFile,
     closings: TextFile,
+    ghost of_network: { network.text ≡ Network },
+    ghost of_landmarks: { landmarks.text ≡ Landmarks },
+    ghost of_closings: { closings.text ≡ Closings },
 }
 
 impl TextFiles {
-    /// Makes the file of the landmarks beside that of the network, and then that of the closed arcs, or removes what was made.
-    fn make_beside<R: AllocGlobal + Eprint + Files<File = File>>(
-        rt: &R,
-        progress: &Progress<'_, R>,
-        folder: &str,
-        network: TextFile,
-    ) -> Result<TextFiles, Failed>
-        ensures { IfErr result IsTextUnmade }
-    {
-        match TextFile::make(rt, progress, folder, Exported::Landmarks) {
-            Ok(landmarks) => TextFiles::make_last(rt, progress, folder, network, landmarks),
-            Err(failed) => {
-                network.remove(rt);
-                Err(failed)
-            }
-        }
-    }
-
-    /// Makes the file of the closed arcs beside the two others, or removes them.
-    fn make_last<R: AllocGlobal + Eprint + Files<File = File>>(
-        rt: &R,
-        progress: &Progress<'_, R>,
-        folder: &str,
-        network: TextFile,
-        landmarks: TextFile,
-    ) -> Result<TextFiles, Failed>
-        ensures { IfErr result IsTextUnmade }
-    {
-        match TextFile::make(rt, progress, folder, Exported::Closings) {
-            Ok(closings) => Ok(TextFiles {
-                network,
-                landmarks,
-                closings,
-            }),
-            Err(failed) => {
-                landmarks.remove(rt);
-                network.remove(rt);
-                Err(failed)
-            }
-        }
-    }
-
     /// Makes all three, or none.
-    pub fn make<R: AllocGlobal + Eprint + Files<File = File>>(
+    fn make<R: AllocGlobal + Eprint + Files<File = File>>(
         rt: &R,
         progress: &Progress<'_, R>,
         folder: &str,
@@ -216,23 +201,40 @@ impl TextFiles {
         ensures { IfErr result IsTextUnmade }
     {
         let network = TextFile::make(rt, progress, folder, Exported::Network)?;
-        TextFiles::make_beside(rt, progress, folder, network)
+        let landmarks = TextFile::make_behind(
+            rt,
+            progress,
+            folder,
+            Exported::Landmarks,
+            &[&network],
+        )?;
+        let closings = TextFile::make_behind(
+            rt,
+            progress,
+            folder,
+            Exported::Closings,
+            &[&network, &landmarks],
+        )?;
+        Ok(TextFiles {
+            network,
+            landmarks,
+            closings,
+        })
     }
 
-    /// Writes the texts of a store's network into them. Each is synced, and then their folder.
-    pub fn fill<R: Clock + Eprint, D: Disk>(
+    /// Writes the texts of a store's network into them, each its own. Each is synced, and then their folder.
+    fn fill<R: Clock + Eprint, D: Disk>(
         &self,
         alloc: Global,
         progress: &Progress<'_, R>,
         store: &Store<D>,
         folder: &File,
-    ) -> Result<(), Failed> {
-        self.network
-            .fill(alloc, progress, store, Exported::Network)?;
-        self.landmarks
-            .fill(alloc, progress, store, Exported::Landmarks)?;
-        self.closings
-            .fill(alloc, progress, store, Exported::Closings)?;
+    ) -> Result<(), Failed>
+        ensures { IfErr result IsTextUnwritten }
+    {
+        self.network.fill(alloc, progress, store)?;
+        self.landmarks.fill(alloc, progress, store)?;
+        self.closings.fill(alloc, progress, store)?;
         match folder.sync_all() {
             Ok(()) => Ok(()),
             Err(_) => Err(Failed::Code(Refusal::Device)),
@@ -240,9 +242,28 @@ impl TextFiles {
     }
 
     /// Removes them.
-    pub fn remove<R: Files>(&self, rt: &R) {
+    fn remove<R: Files>(&self, rt: &R) {
         self.network.remove(rt);
         self.landmarks.remove(rt);
         self.closings.remove(rt);
     }
+}
+
+/// Writes the network of a store out as three texts in a folder that is there. Where one of the texts is there already nothing is made (46). Each text is
+/// synced, and then the folder; where one of these fails (43) those that were made are removed.
+pub fn write_texts<R: AllocGlobal + Clock + Eprint + Files<File = File>, D: Disk>(
+    rt: &R,
+    progress: &Progress<'_, R>,
+    store: &Store<D>,
+    folder: &str,
+) -> Result<(), Failed>
+    ensures { IfErr result IsTextUnwritten }
+{
+    let place = open_folder(rt, progress, folder)?;
+    let texts = TextFiles::make(rt, progress, folder)?;
+    let filled = texts.fill(rt.alloc(), progress, store, &place);
+    if filled.is_err() {
+        texts.remove(rt);
+    }
+    filled
 }

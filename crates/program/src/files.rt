@@ -25,10 +25,13 @@ const BUFFER: usize = 1 << 16;
 const PIECE: usize = 1 << 12;
 
 /// By what number a failure names the store's file; the texts are 0 and 1.
-const STORE: u8 = 2;
+pub const STORE: u8 = 2;
 
-/// By what number a failure names the file of the store of which another is made by texts.
-const BASE: u8 = 3;
+/// By what number a failure names the file of the store of which another is made, where that takes no texts.
+pub const OLD: u8 = 0;
+
+/// By what number a failure names the file of the store of which another is made by texts: the one behind the new store's.
+pub const BASE: u8 = 3;
 
 /// By what number a failure names the first pipe of a session; those behind it are 4 and on.
 pub const FIRST_PIPE: u8 = 3;
@@ -311,37 +314,16 @@ pub fn open_served_store<R: Clock + Eprint + Files<File = File>>(
     }
 }
 
-/// The file of a store that is read. One that can't be opened to be read, is no file, or is being changed is fault 10 of line 0.
+/// The file of a store that is read. One that can't be opened to be read, is no file, or is being changed is fault 10 of line 0 of text `which`.
 pub fn open_store_to_read<'a, R: Clock + Eprint + Files<File = File>>(
     rt: &R,
     progress: &'a Progress<'a, R>,
+    which: u8,
     name: &'a str,
 ) -> Result<StoreDisk<'a, R>, Failed>
-    ensures { IfErr result (λ failed. failed ≡ unopened 2) }
+    ensures { IfErr result (λ failed. failed ≡ unopened which) }
 {
-    opened(progress, STORE, name, open_to_read(rt, name))
-}
-
-/// The file of the store of which another is made, as `open_store_to_read` opens it. A failure names it as the first.
-pub fn open_old_store<'a, R: Clock + Eprint + Files<File = File>>(
-    rt: &R,
-    progress: &'a Progress<'a, R>,
-    name: &'a str,
-) -> Result<StoreDisk<'a, R>, Failed>
-    ensures { IfErr result (λ failed. failed ≡ unopened 0) }
-{
-    opened(progress, 0, name, open_to_read(rt, name))
-}
-
-/// The file of the store of which another is made by texts, as `open_store_to_read` opens it. A failure names it as the one behind the new store's.
-pub fn open_base_store<'a, R: Clock + Eprint + Files<File = File>>(
-    rt: &R,
-    progress: &'a Progress<'a, R>,
-    name: &'a str,
-) -> Result<StoreDisk<'a, R>, Failed>
-    ensures { IfErr result (λ failed. failed ≡ unopened 3) }
-{
-    opened(progress, BASE, name, open_to_read(rt, name))
+    opened(progress, which, name, open_to_read(rt, name))
 }
 
 /// What is told of a new store's file that is not there.

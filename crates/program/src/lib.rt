@@ -14,6 +14,7 @@ ghost use Rattle.program.specs.Failures.{job_status};
 ghost use Rattle.words.specs.Pipes.{AreFit};
 ghost use Rattle.words.specs.Words.{IsJournal, IsWorkers, delta_of, journal_of, pipes_of, workers_of};
 
+mod bounds;
 mod copies;
 mod doors;
 mod exports;
@@ -29,6 +30,7 @@ mod standings;
 mod store_jobs;
 mod streams;
 
+pub use bounds::ServerRuntime;
 pub use copies::copy_store;
 pub use doors::{FileNames, doors_of, see_pipes};
 pub use filedisk::FileDisk;
@@ -38,7 +40,7 @@ use progress::Progress;
 pub use querytexts::{Reach, batch_text, once_text, reach_text, table_text};
 pub use rehearsals::{joint_text, rehearse_text};
 use roadnet::Refusal;
-use running::run;
+pub use running::run;
 pub use scripts::parse_script;
 pub use serve_jobs::{Teller, serve_disk};
 pub use sessions::serve;
@@ -47,12 +49,11 @@ use std::env;
 use std::fs::File;
 use std::io::{self, ErrorKind};
 use std::rt::{Env, Files};
-use std::sync::Wait;
 use std::thread::Threads;
 use std::time::Clock;
 pub use storetexts::{
     apply_text, ask_table_text, ask_text, check_text, copy_text, create_text, export_text,
-    migrate_text, show_text,
+    migrate_text, show_text, upgrade_text,
 };
 use streams::{Streams, hold_streams};
 pub use words::{Asked, Job, MISUSE, Misfit, PairTexts, PipePair, Usage, read_words};
@@ -136,16 +137,7 @@ fn without_words<R: Eprint>(rt: &R, error: &io::Error) -> u8
 /// Does what is asked for, tells what failed, and gives the exit status.
 fn do_asked<
     R: AllocGlobal + Clock + Eprint + Files<File = File> + Input + Print + Threads,
-    T: AllocGlobal
-        + Threads
-        + Wait
-        + Clock
-        + Eprint
-        + Files<File = File>
-        + Copy
-        + Send
-        + Sync
-        + 'static,
+    T: ServerRuntime,
 >(rt: &R, threads: T, asked: &Asked<'_>) -> u8
 where
     T::Dir: Send + 'static,
@@ -171,16 +163,7 @@ where
 /// Does what these words ask for, and gives the exit status.
 fn do_these<
     R: AllocGlobal + Clock + Eprint + Files<File = File> + Input + Print + Threads,
-    T: AllocGlobal
-        + Threads
-        + Wait
-        + Clock
-        + Eprint
-        + Files<File = File>
-        + Copy
-        + Send
-        + Sync
-        + 'static,
+    T: ServerRuntime,
 >(rt: &R, threads: T, words: &[String]) -> u8
 where
     T::Dir: Send + 'static,
@@ -195,16 +178,7 @@ where
 /// Does what the program's words ask for, and gives the exit status. The standard streams are lent for it, so they are held until it is done.
 fn do_words<
     R: AllocGlobal + Clock + Env + Eprint + Files<File = File> + Input + Print + Threads,
-    T: AllocGlobal
-        + Threads
-        + Wait
-        + Clock
-        + Eprint
-        + Files<File = File>
-        + Copy
-        + Send
-        + Sync
-        + 'static,
+    T: ServerRuntime,
 >(rt: &R, threads: T, _held: &Streams) -> u8
 where
     T::Dir: Send + 'static,
@@ -224,16 +198,7 @@ where
 /// where the words are not ones that it takes, 3 where a server took nearly all commands of one life. `threads` is the runtime of a desk's threads.
 pub fn run_program<
     R: AllocGlobal + Clock + Env + Eprint + Files<File = File> + Input + Print + Threads,
-    T: AllocGlobal
-        + Threads
-        + Wait
-        + Clock
-        + Eprint
-        + Files<File = File>
-        + Copy
-        + Send
-        + Sync
-        + 'static,
+    T: ServerRuntime,
 >(rt: &R, threads: T) -> u8
 where
     T::Dir: Send + 'static,

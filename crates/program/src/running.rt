@@ -7,16 +7,16 @@ ghost use Rattle.words.specs.Pipes.{AreFit};
 ghost use Rattle.words.specs.Words.{IsJournal, IsWorkers, delta_of, journal_of, pipes_of, workers_of, searched_width};
 ghost use Rattle.printing.specs.Widths.{told_width, told_workers};
 
-use crate::jobs::{run_batch, run_joint, run_once, run_reach, run_rehearse};
-use crate::making_jobs::{run_copy, run_create, run_migrate, run_upgrade};
+use crate::bounds::ServerRuntime;
+use crate::jobs::{batch, find_reached, joint, once, rehearse};
+use crate::making_jobs::{copy, create, migrate, upgrade};
 use crate::serve_jobs::run_serve;
-use crate::store_jobs::{run_apply, run_ask, run_check, run_export, run_show};
+use crate::store_jobs::{apply, ask, check, export, show};
 use printing::{Done, Failed};
 use progress::Progress;
 use querytexts::Reach;
 use std::fs::File;
 use std::rt::Files;
-use std::sync::Wait;
 use std::thread::Threads;
 use std::time::Clock;
 use words::Job;
@@ -56,6 +56,14 @@ fn kind_of(job: &Job<'_>) -> Kind
     }
 }
 
+/// Done without a search, unless something failed.
+fn without_search(outcome: Result<(), Failed>) -> Result<Done, Failed>
+    ensures { IfOk result (λ done. told_width done ≡ None) }
+{
+    outcome?;
+    Ok(Done::without_search())
+}
+
 /// Does a job on texts.
 fn run_on_texts<R: AllocGlobal + Clock + Eprint + Files<File = File> + Input + Print + Threads>(
     rt: &R,
@@ -69,37 +77,37 @@ fn run_on_texts<R: AllocGlobal + Clock + Eprint + Files<File = File> + Input + P
     ensures workers { workers_of job.now ≡ None }
 {
     match *job {
-        Job::Joint { delta } => run_joint(rt, delta),
+        Job::Joint { delta } => joint(rt, delta),
         Job::Once {
             network,
             source,
             target,
             delta,
-        } => run_once(rt, progress, network, source, target, delta),
+        } => once(rt, progress, network, source, target, delta),
         Job::Batch {
             network,
             pairs,
             delta,
-        } => run_batch(rt, progress, network, pairs, delta),
+        } => batch(rt, progress, network, pairs, delta),
         Job::Reach {
             network,
             source,
             within,
             delta,
-        } => run_reach(rt, progress, network, Reach::From { source }, within, delta),
+        } => find_reached(rt, progress, network, Reach::From { source }, within, delta),
         Job::Reached {
             network,
             target,
             within,
             delta,
-        } => run_reach(rt, progress, network, Reach::To { target }, within, delta),
+        } => find_reached(rt, progress, network, Reach::To { target }, within, delta),
         Job::Rehearse {
             network,
             script,
             journal_pages,
             room,
             delta,
-        } => run_rehearse(rt, progress, network, script, journal_pages, room, delta),
+        } => rehearse(rt, progress, network, script, journal_pages, room, delta),
         _ => unreachable!(),
     }
 }
@@ -122,21 +130,21 @@ fn run_making<R: AllocGlobal + Clock + Eprint + Files<File = File> + Input + Pri
             landmarks,
             journal_pages,
             room,
-        } => run_create(rt, progress, store, network, landmarks, journal_pages, room),
-        Job::Migrate { old, new, room } => run_migrate(rt, progress, old, new, room),
+        } => without_search(create(rt, progress, store, network, landmarks, journal_pages, room)),
+        Job::Migrate { old, new, room } => without_search(migrate(rt, progress, old, new, room)),
         Job::Upgrade {
             store,
             old,
             network,
             new,
             room,
-        } => run_upgrade(rt, progress, store, old, network, new, room),
+        } => without_search(upgrade(rt, progress, store, old, network, new, room)),
         Job::Copy {
             store,
             file,
             room,
             journal_pages,
-        } => run_copy(rt, progress, store, file, room, journal_pages),
+        } => without_search(copy(rt, progress, store, file, room, journal_pages)),
         _ => unreachable!(),
     }
 }
@@ -157,15 +165,15 @@ fn run_on_store<R: AllocGlobal + Clock + Eprint + Files<File = File> + Input + P
             store,
             commands,
             delta: _,
-        } => run_apply(rt, progress, store, commands),
+        } => without_search(apply(rt, progress, store, commands)),
         Job::Ask {
             store,
             pairs,
             delta,
-        } => run_ask(rt, progress, store, pairs, delta),
-        Job::Check { store } => run_check(rt, progress, store),
-        Job::Show { store, look } => run_show(rt, progress, store, look),
-        Job::Export { store, folder } => run_export(rt, progress, store, folder),
+        } => ask(rt, progress, store, pairs, delta),
+        Job::Check { store } => without_search(check(rt, progress, store)),
+        Job::Show { store, look } => without_search(show(rt, progress, store, look)),
+        Job::Export { store, folder } => without_search(export(rt, progress, store, folder)),
         _ => unreachable!(),
     }
 }
@@ -173,16 +181,7 @@ fn run_on_store<R: AllocGlobal + Clock + Eprint + Files<File = File> + Input + P
 /// Does the job that serves a store. `threads` is the runtime of a desk's threads.
 fn run_serving<
     R: AllocGlobal + Clock + Eprint + Files<File = File> + Input + Print,
-    T: AllocGlobal
-        + Threads
-        + Wait
-        + Clock
-        + Eprint
-        + Files<File = File>
-        + Copy
-        + Send
-        + Sync
-        + 'static,
+    T: ServerRuntime,
 >(rt: &R, threads: T, progress: &Progress<'_, R>, job: &Job<'_>) -> Result<Done, Failed>
 where
     T::Dir: Send + 'static,
@@ -219,16 +218,7 @@ where
 /// Does a job, with searches of the job's width. `threads` is the runtime of a desk's threads.
 pub fn run<
     R: AllocGlobal + Clock + Eprint + Files<File = File> + Input + Print + Threads,
-    T: AllocGlobal
-        + Threads
-        + Wait
-        + Clock
-        + Eprint
-        + Files<File = File>
-        + Copy
-        + Send
-        + Sync
-        + 'static,
+    T: ServerRuntime,
 >(rt: &R, threads: T, progress: &Progress<'_, R>, job: &Job<'_>) -> Result<Done, Failed>
 where
     T::Dir: Send + 'static,

@@ -23,6 +23,7 @@ ghost use Rattle.program.specs.Failures.{server_outcome};
 ghost use Rattle.words.specs.Pipes.{AreFit};
 ghost use Rattle.words.specs.Words.{IsWorkers};
 
+use crate::bounds::ServerRuntime;
 use crate::copies::{FileCopies, see_folder};
 use crate::doors::{Doors, FileNames, PipeDoor, SeenPipes, doors_of, see_pipes};
 use crate::files::{FIRST_PIPE, open_served_store, standard_input, standard_output};
@@ -290,16 +291,7 @@ where
 pub fn serve_disk<
     D: Disk + Drop + Send + 'static,
     G: Gate + Drop + Send + Sync + 'static,
-    T: AllocGlobal
-        + Threads
-        + Wait
-        + Clock
-        + Eprint
-        + Files<File = File>
-        + Copy
-        + Send
-        + Sync
-        + 'static,
+    T: ServerRuntime,
     A: BufRead + Send + 'static,
     B: Write + Send + 'static,
     P: Door<A, B> + Drop + Send + 'static,
@@ -385,73 +377,10 @@ fn outcome_of<D: Disk + Drop>(ended: Ended<D>) -> Result<Done, Failed>
     Ok(done)
 }
 
-/// A session with a reader, answered on standard output, and one with each client that comes by a door.
-fn serve_reader<
-    R: AllocGlobal + Clock + Print,
-    T: AllocGlobal
-        + Threads
-        + Wait
-        + Clock
-        + Eprint
-        + Files<File = File>
-        + Copy
-        + Send
-        + Sync
-        + 'static,
-    D: Disk + Drop + Send + 'static,
-    A: BufRead + Send + 'static,
-    B: Write + Send + 'static,
-    P: Door<A, B> + Drop + Send + 'static,
-    I: BufRead + Drop,
->(rt: &R, threads: T, opened: Opened<D, P>, mut reader: I) -> Result<Done, Failed>
-where
-    T::Dir: Send + 'static,
-    requires width { ForSome opened.setup.delta IsWidth }
-    requires workers { IsWorkers opened.setup.workers }
-    ensures width { IfOk result (λ done. told_width done ≡ opened.setup.delta) }
-    ensures workers { IfOk result (λ done. told_workers done ≡ Some opened.setup.workers) }
-{
-    let mut writer = standard_output(rt)?;
-    let mut reader = Counted::new(&mut reader);
-    let mut writer = CountedWriter::new(&mut writer);
-    let Opened {
-        disk,
-        lock,
-        doors,
-        folder,
-        setup,
-    } = opened;
-    let gate = Teller { rt: threads };
-    match serve_disk(
-        threads,
-        rt.alloc(),
-        disk,
-        gate,
-        setup,
-        lock,
-        doors,
-        folder,
-        &mut reader,
-        &mut writer,
-    ) {
-        Ok(ended) => outcome_of(ended),
-        Err(refusal) => Err(Failed::Code(refusal)),
-    }
-}
-
 /// A session on standard input and output, and one with each client that comes by a door.
-fn serve_input<
+fn serve_opened<
     R: AllocGlobal + Clock + Input + Print,
-    T: AllocGlobal
-        + Threads
-        + Wait
-        + Clock
-        + Eprint
-        + Files<File = File>
-        + Copy
-        + Send
-        + Sync
-        + 'static,
+    T: ServerRuntime,
     D: Disk + Drop + Send + 'static,
     A: BufRead + Send + 'static,
     B: Write + Send + 'static,
@@ -464,8 +393,30 @@ where
     ensures width { IfOk result (λ done. told_width done ≡ opened.setup.delta) }
     ensures workers { IfOk result (λ done. told_workers done ≡ Some opened.setup.workers) }
 {
-    let reader = standard_input(rt)?;
-    serve_reader(rt, threads, opened, reader)
+    let mut reader = standard_input(rt)?;
+    let mut writer = standard_output(rt)?;
+    let Opened {
+        disk,
+        lock,
+        doors,
+        folder,
+        setup,
+    } = opened;
+    match serve_disk(
+        threads,
+        rt.alloc(),
+        disk,
+        Teller { rt: threads },
+        setup,
+        lock,
+        doors,
+        folder,
+        &mut Counted::new(&mut reader),
+        &mut CountedWriter::new(&mut writer),
+    ) {
+        Ok(ended) => outcome_of(ended),
+        Err(refusal) => Err(Failed::Code(refusal)),
+    }
 }
 
 /// The pairs of pipes, each of whose names is that of a named pipe. One that is none is told.
@@ -512,16 +463,7 @@ fn doors_and_folder<R: AllocGlobal + Clock + Eprint + Files<File = File>, T: Cop
 /// A name that is none of a pipe is told (10 of line 0) before anything is served, and then one of a folder that is not there.
 pub fn run_serve<
     R: AllocGlobal + Clock + Eprint + Files<File = File> + Input + Print,
-    T: AllocGlobal
-        + Threads
-        + Wait
-        + Clock
-        + Eprint
-        + Files<File = File>
-        + Copy
-        + Send
-        + Sync
-        + 'static,
+    T: ServerRuntime,
 >(
     rt: &R,
     threads: T,
@@ -557,5 +499,5 @@ where
             pairs: pipes.len() as u64,
         },
     };
-    serve_input(rt, threads, opened)
+    serve_opened(rt, threads, opened)
 }

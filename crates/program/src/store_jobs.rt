@@ -1,24 +1,26 @@
-//! The jobs of the program on a store in a file, answered on standard output.
-//!
-//! A job opens its files and hands them to a call over any disk and any readers, which opens the output: so each of the two has little to let go
-//! where it ends early.
-ghost use Rattle.std.specs.Prelude.{◌≡◌, None, IfOk};
+//! The jobs of the program on a store in a file, answered on standard output. Each opens its files, and then the output, for one call on any disk.
+ghost use Rattle.std.specs.Prelude.{◌≡◌, ◌≢◌, OnOk, IfOk, IfErr};
+ghost use Rattle.std.specs.Io.KnownBytes.{Appends};
 ghost use Rattle.std.specs.Option.{ForSome};
+ghost use lib.Chars.{codes};
+ghost use Rattle.roadnet.specs.declared.refusals.Refusal.TheVariants.{Write as write};
 ghost use Rattle.rows.specs.Kept.{IsWidth};
-ghost use Rattle.program.specs.Failures.{IsToldAfterOpening, IsToldAfterSources};
+ghost use Rattle.program.specs.Failures.{IsToldAfterOpening, IsToldAfterSources, IsTextUnwritten};
+ghost use Rattle.printing.specs.Counting.{writer_of};
+ghost use Rattle.printing.specs.Replied.{number_line};
 ghost use Rattle.printing.specs.Widths.{told_width};
+ghost use Rattle.printing.specs.Writers.{Puts};
 
-use crate::exports::{TextFiles, open_folder};
+use crate::exports::write_texts;
 use crate::files::{
-    fault_of_sources, open_store, open_store_to_read, open_text, standard_output, told_output,
+    STORE, TextReader, fault_of_sources, open_store, open_store_to_read, open_text,
+    standard_output, told_output,
 };
-use crate::making_jobs::without_search;
 use dimacs::Counted;
 use disk::Disk;
 use machine::Replied;
 use printing::{CountedWriter, Done, Failed, Look, put_reply};
 use progress::Progress;
-use roadnet::Refusal;
 use std::alloc::Global;
 use std::fs::File;
 use std::io::{BufRead, Write};
@@ -39,39 +41,6 @@ fn after_opening<D: Disk + Drop>(alloc: Global, disk: D, failed: Failed) -> Fail
     }
 }
 
-/// The groups of commands of a reader, on the store of a disk.
-fn apply_on<R: AllocGlobal + Clock + Eprint + Print, D: Disk + Drop, I: BufRead + Drop>(
-    rt: &R,
-    progress: &Progress<'_, R>,
-    disk: D,
-    mut commands: I,
-) -> Result<Done, Failed>
-    ensures { IfOk result (λ done. told_width done ≡ None) }
-{
-    let mut writer = told_output(rt, progress)?;
-    let mut commands = Counted::new(&mut commands);
-    let mut writer = CountedWriter::new(&mut writer);
-    let (outcome, _disk) = apply_text(rt.alloc(), disk, &mut commands, &mut writer);
-    without_search(outcome)
-}
-
-/// The groups of commands of a file, on the store of another. A fault of the store is told before one of the commands. No row is computed, so no
-/// width is asked for.
-pub fn run_apply<R: AllocGlobal + Clock + Eprint + Files<File = File> + Input + Print>(
-    rt: &R,
-    progress: &Progress<'_, R>,
-    store: &str,
-    commands: &str,
-) -> Result<Done, Failed>
-    ensures { IfOk result (λ done. told_width done ≡ None) }
-{
-    let disk = open_store(rt, progress, store)?;
-    match open_text(rt, progress, 0, commands) {
-        Ok(commands) => apply_on(rt, progress, disk, commands),
-        Err(failed) => Err(after_opening(rt.alloc(), disk, failed)),
-    }
-}
-
 /// The failure of a text that stands behind another in a call on a store: a refusal of the store is told before it, and then a fault of the text of
 /// sources.
 fn after_sources<D: Disk + Drop, R: BufRead>(
@@ -88,64 +57,68 @@ fn after_sources<D: Disk + Drop, R: BufRead>(
     }
 }
 
-/// The pairs between the nodes of two readers in the network of the store of a disk.
-fn ask_table_on<
-    R: AllocGlobal + Clock + Eprint + Print + Threads,
-    D: Disk + Drop,
-    I: BufRead + Drop,
-    J: BufRead + Drop,
->(
+/// The first text of a call on the store of a disk. Where it can't be opened, a refusal of the store is still told first.
+fn open_beside<'a, R: AllocGlobal + Clock + Eprint + Files<File = File> + Input, D: Disk + Drop>(
+    rt: &'a R,
+    progress: &'a Progress<'a, R>,
+    name: &'a str,
+    disk: D,
+) -> Result<(TextReader<'a, R>, D), Failed> {
+    match open_text(rt, progress, 0, name) {
+        Ok(text) => Ok((text, disk)),
+        Err(failed) => Err(after_opening(rt.alloc(), disk, failed)),
+    }
+}
+
+/// The groups of commands of a file, on the store of another. A fault of the store is told before one of the commands. No row is computed, so no
+/// width is asked for.
+pub fn apply<R: AllocGlobal + Clock + Eprint + Files<File = File> + Input + Print>(
     rt: &R,
     progress: &Progress<'_, R>,
-    disk: D,
-    mut from: I,
-    mut to: J,
-    delta: Option<u32>,
-) -> Result<Done, Failed>
-    requires { ForSome delta IsWidth }
-    ensures { IfOk result (λ done. told_width done ≡ delta) }
-{
+    store: &str,
+    commands: &str,
+) -> Result<(), Failed> {
+    let disk = open_store(rt, progress, store)?;
+    let (mut commands, disk) = open_beside(rt, progress, commands, disk)?;
     let mut writer = told_output(rt, progress)?;
-    let mut from = Counted::new(&mut from);
-    let mut to = Counted::new(&mut to);
-    let mut writer = CountedWriter::new(&mut writer);
-    let (outcome, _disk) = ask_table_text(
-        rt,
+    let (outcome, _disk) = apply_text(
         rt.alloc(),
         disk,
-        &mut from,
-        &mut to,
-        delta,
-        &mut writer,
+        &mut Counted::new(&mut commands),
+        &mut CountedWriter::new(&mut writer),
     );
     outcome
 }
 
-/// The pairs between the nodes of a reader and those of a file in the network of the store of a disk.
-fn ask_targets<
-    R: AllocGlobal + Clock + Eprint + Files<File = File> + Input + Print + Threads,
-    D: Disk + Drop,
-    I: BufRead + Drop,
->(
+/// The pairs of a file in the network of a store, which is read alone and stays as it is. A fault of the store is told before one of the
+/// pairs.
+fn ask_listed<R: AllocGlobal + Clock + Eprint + Files<File = File> + Input + Print + Threads>(
     rt: &R,
     progress: &Progress<'_, R>,
-    disk: D,
-    mut from: I,
-    targets: &str,
+    store: &str,
+    pairs: &str,
     delta: Option<u32>,
 ) -> Result<Done, Failed>
     requires { ForSome delta IsWidth }
     ensures { IfOk result (λ done. told_width done ≡ delta) }
 {
-    match open_text(rt, progress, 1, targets) {
-        Ok(to) => ask_table_on(rt, progress, disk, from, to, delta),
-        Err(failed) => Err(after_sources(rt.alloc(), disk, &mut from, failed)),
-    }
+    let disk = open_store_to_read(rt, progress, STORE, store)?;
+    let (mut p2p, disk) = open_beside(rt, progress, pairs, disk)?;
+    let mut writer = told_output(rt, progress)?;
+    let (outcome, _disk) = ask_text(
+        rt,
+        rt.alloc(),
+        disk,
+        &mut Counted::new(&mut p2p),
+        delta,
+        &mut CountedWriter::new(&mut writer),
+    );
+    outcome
 }
 
 /// The pairs between the nodes of two files in the network of a store, which is read alone and stays as it is. A fault of the store is told before one of
 /// the texts, and one of the sources before one of the targets.
-fn run_ask_table<R: AllocGlobal + Clock + Eprint + Files<File = File> + Input + Print + Threads>(
+fn ask_table<R: AllocGlobal + Clock + Eprint + Files<File = File> + Input + Print + Threads>(
     rt: &R,
     progress: &Progress<'_, R>,
     store: &str,
@@ -156,56 +129,27 @@ fn run_ask_table<R: AllocGlobal + Clock + Eprint + Files<File = File> + Input + 
     requires { ForSome delta IsWidth }
     ensures { IfOk result (λ done. told_width done ≡ delta) }
 {
-    let disk = open_store_to_read(rt, progress, store)?;
-    match open_text(rt, progress, 0, sources) {
-        Ok(from) => ask_targets(rt, progress, disk, from, targets, delta),
-        Err(failed) => Err(after_opening(rt.alloc(), disk, failed)),
-    }
-}
-
-/// The pairs of a reader in the network of the store of a disk.
-fn ask_pairs_on<
-    R: AllocGlobal + Clock + Eprint + Print + Threads,
-    D: Disk + Drop,
-    I: BufRead + Drop,
->(
-    rt: &R,
-    progress: &Progress<'_, R>,
-    disk: D,
-    mut p2p: I,
-    delta: Option<u32>,
-) -> Result<Done, Failed>
-    requires { ForSome delta IsWidth }
-    ensures { IfOk result (λ done. told_width done ≡ delta) }
-{
+    let disk = open_store_to_read(rt, progress, STORE, store)?;
+    let (mut from, disk) = open_beside(rt, progress, sources, disk)?;
+    let mut to = match open_text(rt, progress, 1, targets) {
+        Ok(to) => to,
+        Err(failed) => return Err(after_sources(rt.alloc(), disk, &mut from, failed)),
+    };
     let mut writer = told_output(rt, progress)?;
-    let mut p2p = Counted::new(&mut p2p);
-    let mut writer = CountedWriter::new(&mut writer);
-    let (outcome, _disk) = ask_text(rt, rt.alloc(), disk, &mut p2p, delta, &mut writer);
+    let (outcome, _disk) = ask_table_text(
+        rt,
+        rt.alloc(),
+        disk,
+        &mut Counted::new(&mut from),
+        &mut Counted::new(&mut to),
+        delta,
+        &mut CountedWriter::new(&mut writer),
+    );
     outcome
 }
 
-/// The pairs of a file in the network of a store, which is read alone and stays as it is. A fault of the store is told before one of the
-/// pairs.
-fn run_ask_pairs<R: AllocGlobal + Clock + Eprint + Files<File = File> + Input + Print + Threads>(
-    rt: &R,
-    progress: &Progress<'_, R>,
-    store: &str,
-    pairs: &str,
-    delta: Option<u32>,
-) -> Result<Done, Failed>
-    requires { ForSome delta IsWidth }
-    ensures { IfOk result (λ done. told_width done ≡ delta) }
-{
-    let disk = open_store_to_read(rt, progress, store)?;
-    match open_text(rt, progress, 0, pairs) {
-        Ok(p2p) => ask_pairs_on(rt, progress, disk, p2p, delta),
-        Err(failed) => Err(after_opening(rt.alloc(), disk, failed)),
-    }
-}
-
 /// Pairs in the network of a store, which is read alone and stays as it is.
-pub fn run_ask<R: AllocGlobal + Clock + Eprint + Files<File = File> + Input + Print + Threads>(
+pub fn ask<R: AllocGlobal + Clock + Eprint + Files<File = File> + Input + Print + Threads>(
     rt: &R,
     progress: &Progress<'_, R>,
     store: &str,
@@ -216,92 +160,42 @@ pub fn run_ask<R: AllocGlobal + Clock + Eprint + Files<File = File> + Input + Pr
     ensures { IfOk result (λ done. told_width done ≡ delta) }
 {
     match pairs {
-        PairTexts::Listed { pairs } => run_ask_pairs(rt, progress, store, pairs, delta),
+        PairTexts::Listed { pairs } => ask_listed(rt, progress, store, pairs, delta),
         PairTexts::Table { sources, targets } => {
-            run_ask_table(rt, progress, store, sources, targets, delta)
+            ask_table(rt, progress, store, sources, targets, delta)
         }
     }
 }
 
-/// How the store of a disk stands.
-fn check_on<R: AllocGlobal + Clock + Print, D: Disk + Drop>(rt: &R, disk: D) -> Result<Done, Failed>
-    ensures { IfOk result (λ done. told_width done ≡ None) }
-{
-    let mut writer = standard_output(rt)?;
-    let mut writer = CountedWriter::new(&mut writer);
-    let (outcome, _disk) = check_text(rt.alloc(), disk, &mut writer);
-    without_search(outcome)
-}
-
 /// How the store of a file stands. The file is read alone and stays as it is.
-pub fn run_check<R: AllocGlobal + Clock + Eprint + Files<File = File> + Print>(
+pub fn check<R: AllocGlobal + Clock + Eprint + Files<File = File> + Print>(
     rt: &R,
     progress: &Progress<'_, R>,
     store: &str,
-) -> Result<Done, Failed>
-    ensures { IfOk result (λ done. told_width done ≡ None) }
-{
-    let disk = open_store_to_read(rt, progress, store)?;
-    check_on(rt, disk)
-}
-
-/// A look at the arcs of the network of the store of a disk.
-fn show_on<R: AllocGlobal + Clock + Print, D: Disk + Drop>(
-    rt: &R,
-    disk: D,
-    look: Look,
-) -> Result<Done, Failed>
-    ensures { IfOk result (λ done. told_width done ≡ None) }
-{
+) -> Result<(), Failed> {
+    let disk = open_store_to_read(rt, progress, STORE, store)?;
     let mut writer = standard_output(rt)?;
-    let mut writer = CountedWriter::new(&mut writer);
-    let (outcome, _disk) = show_text(rt.alloc(), disk, look, &mut writer);
-    without_search(outcome)
+    let (outcome, _disk) = check_text(rt.alloc(), disk, &mut CountedWriter::new(&mut writer));
+    outcome
 }
 
 /// A look at the arcs of a store's network. The file is read alone and stays as it is.
-pub fn run_show<R: AllocGlobal + Clock + Eprint + Files<File = File> + Print>(
+pub fn show<R: AllocGlobal + Clock + Eprint + Files<File = File> + Print>(
     rt: &R,
     progress: &Progress<'_, R>,
     store: &str,
     look: Look,
-) -> Result<Done, Failed>
-    ensures { IfOk result (λ done. told_width done ≡ None) }
-{
-    let disk = open_store_to_read(rt, progress, store)?;
-    show_on(rt, disk, look)
-}
-
-/// Makes the texts of a store's network in a folder, and writes and syncs them, and then the folder. Those that were made are removed where this fails.
-fn write_into<R: AllocGlobal + Clock + Eprint + Files<File = File>, D: Disk>(
-    rt: &R,
-    progress: &Progress<'_, R>,
-    store: &Store<D>,
-    folder: &str,
-    place: &File,
 ) -> Result<(), Failed> {
-    let texts = TextFiles::make(rt, progress, folder)?;
-    let filled = texts.fill(rt.alloc(), progress, store, place);
-    if filled.is_err() {
-        texts.remove(rt);
-    }
-    filled
-}
-
-/// Writes the network of a store out as three texts in a folder that is there. Where one of the texts is there already nothing is made (46). Each text is
-/// synced, and then the folder; where one of these fails (43) those that were made are removed.
-fn write_out<R: AllocGlobal + Clock + Eprint + Files<File = File>, D: Disk>(
-    rt: &R,
-    progress: &Progress<'_, R>,
-    store: &Store<D>,
-    folder: &str,
-) -> Result<(), Failed> {
-    let place = open_folder(rt, progress, folder)?;
-    write_into(rt, progress, store, folder, &place)
+    let disk = open_store_to_read(rt, progress, STORE, store)?;
+    let mut writer = standard_output(rt)?;
+    let (outcome, _disk) = show_text(rt.alloc(), disk, look, &mut CountedWriter::new(&mut writer));
+    outcome
 }
 
 /// Writes `ok V` and sends it out.
-fn tell_version<W: Write>(out: &mut CountedWriter<'_, W>, version: u64) -> Result<(), Failed> {
+fn tell_version<W: Write>(out: &mut CountedWriter<'_, W>, version: u64) -> Result<(), Failed>
+    ensures { Puts W.contents (number_line (codes "ok ") version) result out.old out.new }
+{
     put_reply(out, &Replied::Durable { version })?;
     out.flush()
 }
@@ -312,40 +206,36 @@ fn export_told<R: AllocGlobal + Clock + Eprint + Files<File = File>, D: Disk, W:
     progress: &Progress<'_, R>,
     store: &Store<D>,
     folder: &str,
-    out: &mut W,
-) -> Result<(), Failed> {
-    write_out(rt, progress, store, folder)?;
-    let mut out = CountedWriter::new(out);
-    tell_version(&mut out, store.version())
+    out: &mut CountedWriter<'_, W>,
+) -> Result<(), Failed>
+    ensures told { OnOk result (Appends (W.contents (writer_of out.old)) (W.contents (writer_of out.new)) (number_line (codes "ok ") store.now.version)) }
+    // With 12 all is done, and only its line could not be told; of each other failure nothing is told.
+    ensures refused { IfErr result (λ failed. failed ≢ Failed.Code write → IsTextUnwritten failed) }
+    ensures untold { IfErr result (λ failed. failed ≢ Failed.Code write → out.new ≡ out.old) }
+{
+    if let Err(failed) = write_texts(rt, progress, store, folder) {
+        return Err(failed);
+    }
+    match tell_version(out, store.version()) {
+        Ok(()) => Ok(()),
+        Err(failed) => Err(failed),
+    }
 }
 
-/// The network of the store of a disk, written out as three texts in a folder.
-fn export_on<R: AllocGlobal + Clock + Eprint + Files<File = File> + Print, D: Disk + Drop>(
+/// The network of a store, written out as three texts in a folder. The store's file is read alone and stays as it is. Where all is done, and only its
+/// line could not be told (12), the texts stay.
+pub fn export<R: AllocGlobal + Clock + Eprint + Files<File = File> + Print>(
     rt: &R,
     progress: &Progress<'_, R>,
-    disk: D,
+    store: &str,
     folder: &str,
-) -> Result<Done, Failed>
-    ensures { IfOk result (λ done. told_width done ≡ None) }
-{
+) -> Result<(), Failed> {
+    let disk = open_store_to_read(rt, progress, STORE, store)?;
     let store = match open(rt.alloc(), disk) {
         Ok(store) => store,
         Err((refusal, _)) => return Err(Failed::Code(refusal)),
     };
     let mut writer = standard_output(rt)?;
-    without_search(export_told(rt, progress, &store, folder, &mut writer))
-}
-
-/// The network of a store, written out as three texts in a folder. The store's file is read alone and stays as it is. Where all is done, and only its
-/// line could not be told (12), the texts stay.
-pub fn run_export<R: AllocGlobal + Clock + Eprint + Files<File = File> + Print>(
-    rt: &R,
-    progress: &Progress<'_, R>,
-    store: &str,
-    folder: &str,
-) -> Result<Done, Failed>
-    ensures { IfOk result (λ done. told_width done ≡ None) }
-{
-    let disk = open_store_to_read(rt, progress, store)?;
-    export_on(rt, progress, disk, folder)
+    let mut out = CountedWriter::new(&mut writer);
+    export_told(rt, progress, &store, folder, &mut out)
 }

@@ -4,7 +4,7 @@ use Rattle.std.specs.Prelude.{IfSome, IfErr, OnOk}
 use Rattle.std.specs.Io.KnownBytes.{Appends}
 use Rattle.std.proofs.lemmas.Bool.{ne_eqb, le-ltb}
 use Rattle.roadnet.specs.declared.refusals.Refusal.{Refusal}
-use Rattle.roadnet.specs.declared.refusals.Refusal.TheVariants.{Write, TooLarge, OutOfMemory, OtherNetwork}
+use Rattle.roadnet.specs.declared.refusals.Refusal.TheVariants.{Write, NotEmpty, TooLarge, OutOfMemory, OtherNetwork}
 use Rattle.roadnet.specs.Net.{Net, IsRoomFor}
 use Rattle.pages.specs.declared.content.Format.TheVariants.{Two}
 use Rattle.storefile.specs.StoreFile.{page, Stored}
@@ -43,6 +43,13 @@ module _ (failed : Failed) (of : IsOfMaps failed) where
     where
       go : (f : Failed) → IsOfMaps f → IfDone (Err f) P
       go (Code Write) h = absurd h
+      go _ h = tt
+
+  pub maps_not_empty : (P : Type 0) → IfNotEmpty failed P
+  maps_not_empty P = go failed of
+    where
+      go : (f : Failed) → IsOfMaps f → IfNotEmpty f P
+      go (Code NotEmpty) h = absurd h
       go _ h = tt
 
   pub maps_counts : (n : ℕ) → CountsWrites {X = Unit {0}} n n (Err failed)
@@ -94,6 +101,12 @@ module _ (Honest : Type 0) (file : List ℕ) where
   stored_undone old Write P (inr (stored, stands, inl other)) = absurd (let same : Write ≡ OtherNetwork = other.0 in let absurdity : ⊥ = cc in absurdity)
   stored_undone old Write P (inr (stored, stands, inr memory)) = absurd (let same : Write ≡ OutOfMemory = memory.0 in let absurdity : ⊥ = cc in absurdity)
   stored_undone old _ P h = tt
+
+  pub stored_not_empty : (old : Net) (refusal : Refusal) (P : Type 0) → MayRefuseStored Honest file old refusal → IfNotEmpty (Code refusal) P
+  stored_not_empty old NotEmpty P (inl unopened) = absurd (let never : false ≡ true = unopened.0 in cc)
+  stored_not_empty old NotEmpty P (inr (stored, stands, inl other)) = absurd (let same : NotEmpty ≡ OtherNetwork = other.0 in let absurdity : ⊥ = cc in absurdity)
+  stored_not_empty old NotEmpty P (inr (stored, stands, inr memory)) = absurd (let same : NotEmpty ≡ OutOfMemory = memory.0 in let absurdity : ⊥ = cc in absurdity)
+  stored_not_empty old _ P h = tt
 
   pub stored_counts : (old : Net) (refusal : Refusal) (n : ℕ) → MayRefuseStored Honest file old refusal → CountsWrites {X = Unit {0}} n n (Err (Code refusal))
   stored_counts old Write n (inl unopened) = absurd (let never : false ≡ true = unopened.0 in cc)

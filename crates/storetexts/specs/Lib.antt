@@ -9,3 +9,4 @@ pub mod Moved
 pub mod Shown
 pub mod Upgraded
 pub mod Exported
+pub mod Late

@@ -79,7 +79,7 @@ fn planned(network: Network, landmarks: &[u32], room: Option<u64>) -> Result<Net
 /// More than 1,000 landmarks are refused with 27, then want of memory outside the texts with 11, then a room that is none with 9. A failed read is fault
 /// 10 of the text and line being read: it is told only where the count of that text's failed calls rose. After an `Err` the texts are
 /// not used again.
-pub fn read_planned<P: Text, Q: Text>(
+fn read_planned<P: Text, Q: Text>(
     alloc: Global,
     gr: &mut P,
     ss: &mut Q,
@@ -102,7 +102,7 @@ pub fn read_planned<P: Text, Q: Text>(
 ///
 /// Refused is a disk that is not empty (46), one that fails (43), and want of memory (11): nothing is written to `out` then, and at 46 and 11 the
 /// disk is as it was. A failed write is 12, and then the store is made.
-pub fn create_store<D: Disk, W: Write>(
+fn create_store<D: Disk, W: Write>(
     alloc: Global,
     disk: D,
     network: &Network,

@@ -1,5 +1,6 @@
 //! Texts that run on a store: made from a network and its landmarks, changed by commands, asked for pairs and for tables of them. A store that is only
-//! looked at, or written out as texts. And one that is made of another store, of this format or the one before.
+//! looked at, or written out as texts. And one that is made of another store, of this format or the one before. The disk of a store that is made, or read for that, may be made
+//! late: at the first call of it.
 #![tactic(auto)]
 
 mod applying;
@@ -7,6 +8,7 @@ mod asking;
 mod checking;
 mod creating;
 mod exporting;
+mod late;
 mod moving;
 mod outcomes;
 mod showing;
@@ -16,9 +18,10 @@ mod upgrading;
 pub use applying::apply_text;
 pub use asking::ask_text;
 pub use checking::check_text;
-pub use creating::{create_store, create_text, read_planned};
+pub use creating::create_text;
 pub use exporting::{export_text, laws_of_exports};
+pub use late::{LateDisk, MakesDisk};
 pub use moving::{copy_text, migrate_text};
 pub use showing::show_text;
 pub use tabling::ask_table_text;
-pub use upgrading::{make_upgraded, read_maps, upgrade_stored, upgrade_text};
+pub use upgrading::upgrade_text;

@@ -1,5 +1,5 @@
 // A store brought to a new map of its roads, in a new file.
-ghost use Rattle.std.specs.Prelude.{◌≡◌, ◌≢◌, ◌≤◌, ◌↔◌, [], OnOk, IfOk, IfErr, IfSome};
+ghost use Rattle.std.specs.Prelude.{◌≡◌, ◌≢◌, ◌⊎◌, ◌≤◌, ◌↔◌, [], OnOk, IfOk, IfErr, IfSome};
 ghost use Rattle.std.specs.Io.KnownBytes.{Appends};
 ghost use Rattle.dimacs.specs.Calling.{KeepsText};
 ghost use Rattle.disk.specs.Moments.{StaysSame};
@@ -28,7 +28,7 @@ const NEW: u8 = 1;
 /// the old one first, and the first fault decides: `which` is 0 for the old map and 1 for the new one; then a room that is none for the new one is
 /// refused with 9. A failed read is fault 10 of the text and line being read: it is told only where the count of that text's failed calls rose.
 /// After an `Err` the texts are not used again.
-pub fn read_maps<P: Text, Q: Text>(
+fn read_maps<P: Text, Q: Text>(
     alloc: Global,
     before: &mut P,
     after: &mut Q,
@@ -70,7 +70,7 @@ fn fit_pages(pages: u32) -> u32
 ///
 /// Refused is what is refused on opening: no store (40), another format (41), a damaged page (42), a disk that fails (43), want of memory (11); then
 /// an old map that is not that of which the store's network was made (52), and want of memory (11).
-pub fn upgrade_stored<O: Disk>(
+fn upgrade_stored<O: Disk>(
     alloc: Global,
     stored: O,
     old: &Network,
@@ -120,7 +120,7 @@ fn put_upgrade<W: Write>(out: &mut CountedWriter<'_, W>, counts: Counts) -> Resu
 ///
 /// Refused is a disk that is not empty (46), one that fails (43), and want of memory (11): nothing is written to `out` then, and at 46 and 11 the
 /// disk is as it was. A failed write is 12, and then the store is made.
-pub fn make_upgraded<D: Disk, W: Write>(
+fn make_upgraded<D: Disk, W: Write>(
     alloc: Global,
     disk: D,
     network: &Network,
@@ -179,6 +179,9 @@ pub fn upgrade_text<O: Disk, D: Disk, P: Text, Q: Text, W: Write>(
         (λ second. IsRefusedUpgrade (O.honest stored) (O.content stored) first second room
         (P.source before.new) (Q.source after.new) failed))) }
     ensures empty { D.honest new → IfDone result.0 (D.content new ≡ []) }
+    // 46 comes only where the new disk isn't empty; 11 where it is, or before any call of it.
+    ensures not_empty { D.honest new → IfErr result.0 (λ failed. IfNotEmpty failed (D.content new ≢ [])) }
+    ensures order { D.honest new → IfErr result.0 (λ failed. IfNoMemory failed ((D.content new ≡ []) ⊎ (result.2 ≡ new))) }
     ensures untouched { O.honest stored → StaysSame O.content O.left O.moment O.left_since stored result.1 }
     ensures same { D.honest new → IfErr result.0 (λ failed. IfNoDevice failed (StaysSame D.content D.left D.moment D.left_since new result.2)) }
     ensures honest { (O.honest result.1 ↔ O.honest stored) × (D.honest result.2 ↔ D.honest new) }

@@ -3,5 +3,5 @@ use Rattle.std.proofs.Common.{ap}
 use Rattle.words.specs.Words.{journal_of}
 use Rattle.program.proofs.running.run_making.Goals as goal
 
-pub run_create-requires : goal.run_create-requires
-run_create-requires g c = c.requires.journal c.in-Create.journal_pages (ap journal_of c.in-Create.is)
+pub create-requires : goal.create-requires
+create-requires g c = c.requires.journal c.in-Create.journal_pages (ap journal_of c.in-Create.is)

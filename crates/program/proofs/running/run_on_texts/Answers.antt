@@ -3,5 +3,5 @@ use Rattle.std.proofs.Common.{ap}
 use Rattle.words.specs.Words.{journal_of}
 use Rattle.program.proofs.running.run_on_texts.Goals as goal
 
-pub run_rehearse-requires-clause-journal : goal.run_rehearse-requires-clause-journal
-run_rehearse-requires-clause-journal g c = c.requires.journal c.in-Rehearse.journal_pages (ap journal_of c.in-Rehearse.is)
+pub rehearse-requires-clause-journal : goal.rehearse-requires-clause-journal
+rehearse-requires-clause-journal g c = c.requires.journal c.in-Rehearse.journal_pages (ap journal_of c.in-Rehearse.is)

@@ -1,6 +1,8 @@
 use Rattle.std.proofs.Common.{refl}
+use Rattle.printing.specs.declared.failed.Failed.TheVariants.{Code}
+use Rattle.storetexts.proofs.Made.{memory_first, memory_second}
 use Rattle.storetexts.proofs.Moved.{still_unwritten}
-use Rattle.storetexts.proofs.Upgraded.{making_refused, maps_counts, maps_refused, maps_undone, stored_counts, stored_refused, stored_undone, told_upgrade, upgraded_store}
+use Rattle.storetexts.proofs.Upgraded.{making_refused, maps_counts, maps_not_empty, maps_refused, maps_undone, stored_counts, stored_not_empty, stored_refused, stored_undone, told_upgrade, upgraded_store}
 use Rattle.storetexts.proofs.upgrading.upgrade_text.Goals as goal
 
 pub returns-in-Err-clause-made : goal.returns-in-Err-clause-made
@@ -48,3 +50,18 @@ returns-clause-refused g c =
     let found = c.in-Ok-upgrade_stored.found in
     making_refused (g.O.Disk.honest c.args.stored) (g.O.Disk.content c.args.stored) c.args.room c.in-Ok.maps.0 c.in-Ok.maps.1 found.0 found.1 found.2 c.in-Ok-upgrade_stored.ensures.made c.make_upgraded-told.result.0 _ _ (g.P.Text.source c.read_maps.new.before) (g.Q.Text.source c.read_maps.new.after)
     c.in-Ok.ensures.maps c.make_upgraded-told.ensures.refused
+
+pub returns-in-Err-clause-not_empty : goal.returns-in-Err-clause-not_empty
+returns-in-Err-clause-not_empty g c honest = maps_not_empty c.in-Err.failed c.in-Err.ensures.kinds _
+
+pub returns-in-Err-upgrade_stored-clause-not_empty : goal.returns-in-Err-upgrade_stored-clause-not_empty
+returns-in-Err-upgrade_stored-clause-not_empty g c honest = stored_not_empty (g.O.Disk.honest c.args.stored) (g.O.Disk.content c.args.stored) c.in-Ok.maps.0 c.in-Err-upgrade_stored.refusal _ c.in-Err-upgrade_stored.ensures.refused
+
+pub returns-in-Err-clause-order : goal.returns-in-Err-clause-order
+returns-in-Err-clause-order g c honest = memory_second c.in-Err.failed _ _ refl
+
+pub returns-in-Err-upgrade_stored-clause-order : goal.returns-in-Err-upgrade_stored-clause-order
+returns-in-Err-upgrade_stored-clause-order g c honest = memory_second (Code c.in-Err-upgrade_stored.refusal) _ _ refl
+
+pub returns-clause-order : goal.returns-clause-order
+returns-clause-order g c honest = memory_first c.make_upgraded-told.result.0 _ _ (c.make_upgraded-told.ensures.order honest)

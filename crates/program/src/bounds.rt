@@ -1,0 +1,32 @@
+//! What the threads of a server stand on, in one word: whatever has the bounds.
+
+use std::fs::File;
+use std::rt::Files;
+use std::sync::Wait;
+use std::thread::Threads;
+use std::time::Clock;
+
+/// A runtime that a server's threads share: they wait for one another, rest, tell on standard error, and make files.
+pub trait ServerRuntime: AllocGlobal
+    + Threads
+    + Wait
+    + Clock
+    + Eprint
+    + Files<File = File>
+    + Copy
+    + Send
+    + Sync
+    + 'static {}
+
+impl<
+    T: AllocGlobal
+        + Threads
+        + Wait
+        + Clock
+        + Eprint
+        + Files<File = File>
+        + Copy
+        + Send
+        + Sync
+        + 'static,
+> ServerRuntime for T {}

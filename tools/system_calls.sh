@@ -1,9 +1,9 @@
 #!/usr/bin/env bash
 # Shows that the calls which crates/filedisk/src/system.rt notes are the ones that reach the system: runs a test over a real file, built by
-# `rt test` in crates/filedisk_tests, under strace, and holds its calls against those that the test makes. Needs strace.
+# `rt test` in crates/disk_tests, under strace, and holds its calls against those that the test makes. Needs strace.
 set -eu
 top=$(cd "$(dirname "${BASH_SOURCE[0]}")/.." && pwd)
-test=$top/crates/filedisk_tests/out/filedisk_tests_tests
+test=$top/crates/disk_tests/out/disk_tests_tests
 wanted=$(mktemp)
 seen=$(mktemp)
 trap 'rm -f "$wanted" "$seen"' EXIT

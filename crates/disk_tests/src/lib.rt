@@ -1,5 +1,17 @@
-//! Tests of disks by their public calls.
+//! Tests of disks in memory and in files, by their public calls.
 #![tactic(auto)]
 
 #[cfg(test)]
 mod disks;
+#[cfg(test)]
+mod fakes;
+#[cfg(test)]
+mod memory_files;
+#[cfg(test)]
+mod opening;
+#[cfg(test)]
+mod paths;
+#[cfg(test)]
+mod real_files;
+#[cfg(test)]
+mod syncing;

@@ -2,7 +2,6 @@
 // turn, up to a run in which none is refused.
 ghost use Rattle.std.specs.Prelude.{◌≤◌};
 
-use crate::rehearsing::CLOSED;
 use dimacs::Code;
 use fixtures::SIX;
 use printing::{CountedWriter, Failed};
@@ -13,6 +12,8 @@ use std::io;
 use std::io::Write;
 use std::process::Abort;
 use std::thread::Threads;
+
+const CLOSED: &[u8] = b"close 7\nflush\ndist 1 6\ntask\npublish\ndist 1 6\n";
 
 /// A writer of 96 bytes at most, which takes no memory.
 #[derive(Drop)]

@@ -1,16 +1,9 @@
-//! Tests of queries, scripts and stores by texts, by their public calls.
+//! Tests of queries, scripts and stores by texts: refused growths, failing calls of a disk, and random scripts and stops beside a second model. Texts that go
+//! in and come out stand in the crate `cases`.
 #![tactic(auto)]
 
 #[cfg(test)]
-mod checks;
-#[cfg(test)]
-mod failing;
-#[cfg(test)]
 mod growths;
-#[cfg(test)]
-mod looks;
-#[cfg(test)]
-mod moving;
 #[cfg(test)]
 mod outcomes;
 #[cfg(test)]
@@ -18,12 +11,8 @@ mod queries;
 #[cfg(test)]
 mod refused_growths;
 #[cfg(test)]
-mod rehearsing;
-#[cfg(test)]
 mod steps;
 #[cfg(test)]
 mod stores;
-#[cfg(test)]
-mod streams;
 #[cfg(test)]
 mod sweeps;

@@ -1,5 +1,4 @@
 use crate::outcomes::is_done;
-use crate::rehearsing::three_word_pages;
 use printing::CountedWriter;
 use rehearsals::rehearse_text;
 use std::alloc::Global;
@@ -163,6 +162,16 @@ fn is_next_printed<R: AllocGlobal + Threads>(
     let mut want = Vec::new(rt.alloc());
     draw_script(rt, random, &mut script, &mut want)?;
     Ok(prints(rt, rt.alloc(), gr, &script, &want))
+}
+
+/// A network of two nodes and 2,047 arcs from 1 to 2, of length 5: three word pages.
+fn three_word_pages(rt: &impl AllocGlobal) -> Result<Vec<u8>, Fail> {
+    let mut text = Vec::new(rt.alloc());
+    text.extend_from_slice(b"p sp 2 2047\n")?;
+    for _ in 0..2047 {
+        text.extend_from_slice(b"a 1 2 5\n")?;
+    }
+    Ok(text)
 }
 
 /// Random scripts from this seed on, each on a network of three word pages and room for two end pages.

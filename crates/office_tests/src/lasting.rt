@@ -66,6 +66,6 @@ fn office_outlives_twenty_thousand_commands(rt: HostRuntime) -> Result<(), Fail>
     };
     let history = History::new(store.network(), store.version());
     let told = settle_all::<Brand, _, _>(&rt, alloc, history, store, 80);
-    assert_eq!(rt; told, Ok(20_240));
+    assert!(rt; told == Ok(20_240));
     Ok(())
 }

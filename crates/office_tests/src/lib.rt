@@ -1,6 +1,8 @@
-//! Tests of published views and of the office by their public calls.
+//! Tests of keepers, published views and the office, by their public calls.
 #![tactic(auto)]
 
+#[cfg(test)]
+mod keeping;
 #[cfg(test)]
 mod lasting;
 #[cfg(test)]
@@ -8,6 +10,8 @@ mod networks;
 #[cfg(test)]
 mod offices;
 #[cfg(test)]
+mod playing;
+#[cfg(test)]
 mod publishing;
 #[cfg(test)]
-mod works;
+mod rehearsing;

@@ -279,6 +279,6 @@ fn commands_are_read_back(rt: HostRuntime) -> Result<(), Fail> {
     };
     let history = History::new(store.network(), store.version());
     let told = round::<Brand, _, _>(&rt, alloc, history, store);
-    assert_eq!(rt; told, Ok(([1, 1, 2, 2], true)));
+    assert!(rt; told == Ok(([1, 1, 2, 2], true)));
     Ok(())
 }

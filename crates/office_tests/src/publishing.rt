@@ -87,80 +87,6 @@ fn shows<R: Wait>(rt: &R, publisher: &mut Publisher, next: Published) -> bool
     publisher.switch(rt, next).is_ok()
 }
 
-/// What a reader sees behind a switch of which it learned.
-fn look_behind<R: Wait>(
-    rt: &R,
-    publisher: &mut Publisher,
-    reader: &mut Reader,
-    next: Published,
-) -> Result<u64, Refusal>
-    requires next { Follows (Some publisher.old.shown) next.shown }
-    requires reader { reader.old.origin ≡ publisher.old.shown.origin }
-{
-    publisher.switch(rt, next)?;
-    reader.learn(&publisher.tell());
-    seen(reader)
-}
-
-/// What a reader sees before a switch, and behind it when it has learned of it.
-fn learn_and_look<R: Wait>(
-    rt: &R,
-    publisher: &mut Publisher,
-    next: Published,
-) -> Result<(u64, u64), Refusal>
-    requires { Follows (Some publisher.old.shown) next.shown }
-{
-    let mut reader = publisher.reader()?;
-    let before = seen(&mut reader)?;
-    Ok((before, look_behind(rt, publisher, &mut reader, next)?))
-}
-
-#[test]
-fn looks_behind_what_it_learned(rt: HostRuntime) -> Result<(), Refusal> {
-    let (mut publisher, next, _) = ready(&rt, rt.alloc())?;
-    let versions = learn_and_look(&rt, &mut publisher, next)?;
-    assert!(rt; versions == (7, 8));
-    publisher.close(&rt);
-    Ok(())
-}
-
-/// What two readers see behind a switch of which the first learned, and the second did not.
-fn both_behind<R: Wait>(
-    rt: &R,
-    publisher: &mut Publisher,
-    told: &mut Reader,
-    other: &mut Reader,
-    next: Published,
-) -> Result<(u64, u64), Refusal>
-    requires next { Follows (Some publisher.old.shown) next.shown }
-    requires told { told.old.origin ≡ publisher.old.shown.origin }
-{
-    let learned = look_behind(rt, publisher, told, next)?;
-    Ok((learned, seen(other)?))
-}
-
-/// The same of two new readers.
-fn look_beside<R: Wait>(
-    rt: &R,
-    publisher: &mut Publisher,
-    next: Published,
-) -> Result<(u64, u64), Refusal>
-    requires { Follows (Some publisher.old.shown) next.shown }
-{
-    let mut told = publisher.reader()?;
-    let mut other = publisher.reader()?;
-    both_behind(rt, publisher, &mut told, &mut other, next)
-}
-
-#[test]
-fn second_reader_learned_nothing(rt: HostRuntime) -> Result<(), Refusal> {
-    let (mut publisher, next, _) = ready(&rt, rt.alloc())?;
-    let versions = look_beside(&rt, &mut publisher, next)?;
-    assert!(rt; versions == (8, 8));
-    publisher.close(&rt);
-    Ok(())
-}
-
 /// As many readers as there is room for.
 fn fill(alloc: Global, publisher: &mut Publisher) -> Result<Vec<Reader>, Refusal> {
     let mut readers = Vec::new(alloc);
@@ -208,15 +134,6 @@ fn switch_twice<R: Wait>(
     let mut reader = publisher.reader()?;
     let first = (shows(rt, publisher, second), seen(&mut reader)?);
     Ok([first, (shows(rt, publisher, third), seen(&mut reader)?)])
-}
-
-#[test]
-fn two_switches(rt: HostRuntime) -> Result<(), Refusal> {
-    let (mut publisher, second, third) = ready(&rt, rt.alloc())?;
-    let told = switch_twice(&rt, &mut publisher, second, third)?;
-    assert!(rt; told == [(true, 8), (true, 9)]);
-    publisher.close(&rt);
-    Ok(())
 }
 
 /// A switch that finds no memory leaves what readers see, and the next one ends at its own view. To be run with each allocation failing in

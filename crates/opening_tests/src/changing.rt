@@ -1,10 +1,8 @@
 // A file with changed bytes, opened and looked at.
-use disk::{Disk, DiskError, MemDisk};
-use fixtures::arc;
 use pages::Slot;
-use roadnet::{Refusal, RoadArc};
+use roadnet::Refusal;
 use std::alloc::{AllocError, Global};
-use store::{Inspected, Standing, Store, inspect};
+use store::{Inspected, Standing, inspect};
 use store_fixtures::{opened, put, with_bytes};
 
 const PAGE: usize = 4096;
@@ -127,170 +125,59 @@ fn first(version: u64, unchecked: u32) -> Result<Inspected, Refusal> {
     })
 }
 
-// Bytes of the file that are changed, and what opening answers then.
-struct Change {
-    bytes: &'static [(usize, u8)],
-    refusal: Option<Refusal>,
-}
+// Bytes of a file that are changed, and what opening is refused for then.
+type Change = (&'static [(usize, u8)], Option<Refusal>);
 
-const CHANGES: [Change; 22] = [
-    Change {
-        bytes: &[],
-        refusal: None,
-    },
-    Change {
-        bytes: &[(0, 0)],
-        refusal: Some(Refusal::NotAStore),
-    },
-    Change {
-        bytes: &[(PAGE - 1, 0)],
-        refusal: Some(Refusal::NotAStore),
-    },
-    Change {
-        bytes: &[(11, 9)],
-        refusal: Some(Refusal::WrongFormat),
-    },
-    Change {
-        bytes: &[(11, 1)],
-        refusal: Some(Refusal::WrongFormat),
-    },
-    // N is 0, M is 67,108,864, J is 63; the room is less than the arcs, or more than 67,108,864.
-    Change {
-        bytes: &[(27, 7)],
-        refusal: Some(Refusal::Damaged { page: 0 }),
-    },
-    Change {
-        bytes: &[(24, 4)],
-        refusal: Some(Refusal::Damaged { page: 0 }),
-    },
-    Change {
-        bytes: &[(15, 0)],
-        refusal: Some(Refusal::Damaged { page: 0 }),
-    },
-    Change {
-        bytes: &[(16, 4), (19, 0)],
-        refusal: Some(Refusal::Damaged { page: 0 }),
-    },
-    Change {
-        bytes: &[(23, 63)],
-        refusal: Some(Refusal::Damaged { page: 0 }),
-    },
+const CHANGES: [Change; 18] = [
+    (&[], None),
+    (&[(0, 0)], Some(Refusal::NotAStore)),
+    (&[(PAGE - 1, 0)], Some(Refusal::NotAStore)),
+    (&[(11, 9)], Some(Refusal::WrongFormat)),
+    (&[(11, 1)], Some(Refusal::WrongFormat)),
+    // N is 0, M is 67,108,864, J is 63; the room is less than the arcs.
+    (&[(15, 0)], Some(Refusal::Damaged { page: 0 })),
+    (&[(16, 4), (19, 0)], Some(Refusal::Damaged { page: 0 })),
+    (&[(23, 63)], Some(Refusal::Damaged { page: 0 })),
+    (&[(27, 7)], Some(Refusal::Damaged { page: 0 })),
     // The first tail is 0, or 7.
-    Change {
-        bytes: &[(PAGE + 3, 0)],
-        refusal: Some(Refusal::Damaged { page: 1 }),
-    },
-    Change {
-        bytes: &[(PAGE + 3, 7)],
-        refusal: Some(Refusal::Damaged { page: 1 }),
-    },
-    // The gate of slot A.
-    Change {
-        bytes: &[(3 * PAGE - 1, 0)],
-        refusal: Some(Refusal::Damaged { page: 2 }),
-    },
-    // A head with fewer arcs than the store was made with, or with more than the room.
-    Change {
-        bytes: &[(2 * PAGE + 31, 7)],
-        refusal: Some(Refusal::Damaged { page: 2 }),
-    },
-    Change {
-        bytes: &[(2 * PAGE + 31, 9)],
-        refusal: Some(Refusal::Damaged { page: 2 }),
-    },
-    // A ninth word.
-    Change {
-        bytes: &[(3 * PAGE + 35, 1)],
-        refusal: Some(Refusal::Damaged { page: 3 }),
-    },
+    (&[(PAGE + 3, 0)], Some(Refusal::Damaged { page: 1 })),
+    (&[(PAGE + 3, 7)], Some(Refusal::Damaged { page: 1 })),
+    // The gate of slot A, and a ninth word.
+    (&[(3 * PAGE - 1, 0)], Some(Refusal::Damaged { page: 2 })),
+    (&[(3 * PAGE + 35, 1)], Some(Refusal::Damaged { page: 3 })),
     // Slot B is open, with epoch 0, 1 and 2.
-    Change {
-        bytes: &[(5 * PAGE - 1, OPEN)],
-        refusal: None,
-    },
-    Change {
-        bytes: &[(5 * PAGE - 1, OPEN), (4 * PAGE + 7, 1)],
-        refusal: Some(Refusal::Damaged { page: 4 }),
-    },
-    Change {
-        bytes: &[(5 * PAGE - 1, OPEN), (4 * PAGE + 7, 2)],
-        refusal: Some(Refusal::Damaged { page: 4 }),
-    },
-    // Journal pages: of sequence 1 at the place of 0, without a command, with a first number that isn't the next.
-    Change {
-        bytes: &[(JOURNAL_GATE, OPEN), (JOURNAL + 7, 1)],
-        refusal: None,
-    },
-    Change {
-        bytes: &[(JOURNAL_GATE, OPEN), (JOURNAL + 15, 1)],
-        refusal: Some(Refusal::Damaged { page: 6 }),
-    },
-    Change {
-        bytes: &[
-            (JOURNAL_GATE, OPEN),
-            (JOURNAL + 15, 2),
-            (JOURNAL + 17, 1),
-            (JOURNAL + 32, 5),
-        ],
-        refusal: Some(Refusal::Damaged { page: 6 }),
-    },
+    (&[(5 * PAGE - 1, OPEN)], None),
+    (
+        &[(5 * PAGE - 1, OPEN), (4 * PAGE + 7, 1)],
+        Some(Refusal::Damaged { page: 4 }),
+    ),
+    (
+        &[(5 * PAGE - 1, OPEN), (4 * PAGE + 7, 2)],
+        Some(Refusal::Damaged { page: 4 }),
+    ),
+    // Journal pages: of sequence 1 at the place of 0, and without a command.
+    (&[(JOURNAL_GATE, OPEN), (JOURNAL + 7, 1)], None),
+    (
+        &[(JOURNAL_GATE, OPEN), (JOURNAL + 15, 1)],
+        Some(Refusal::Damaged { page: 6 }),
+    ),
 ];
 
-// The same of the file with room for ten arcs.
-const ROOMY_CHANGES: [Change; 12] = [
-    Change {
-        bytes: &[],
-        refusal: None,
-    },
-    Change {
-        bytes: &[(2 * PAGE + 31, 11)],
-        refusal: Some(Refusal::Damaged { page: 2 }),
-    },
-    // With eight arcs the ninth word is past them; without it the ends are.
-    Change {
-        bytes: &[(2 * PAGE + 31, 8)],
-        refusal: Some(Refusal::Damaged { page: 3 }),
-    },
-    Change {
-        bytes: &[(2 * PAGE + 31, 8), (3 * PAGE + 35, 0)],
-        refusal: Some(Refusal::Damaged { page: 4 }),
-    },
-    // A tenth word.
-    Change {
-        bytes: &[(3 * PAGE + 39, 1)],
-        refusal: Some(Refusal::Damaged { page: 3 }),
-    },
-    // The ninth arc begins at node 0, ends at node 7; there are ends of a tenth; the last bytes of the end page.
-    Change {
-        bytes: &[(4 * PAGE + 3, 0)],
-        refusal: Some(Refusal::Damaged { page: 4 }),
-    },
-    Change {
-        bytes: &[(4 * PAGE + 7, 7)],
-        refusal: Some(Refusal::Damaged { page: 4 }),
-    },
-    Change {
-        bytes: &[(4 * PAGE + 11, 1), (4 * PAGE + 15, 1)],
-        refusal: Some(Refusal::Damaged { page: 4 }),
-    },
-    Change {
-        bytes: &[(5 * PAGE - 8, 1)],
-        refusal: Some(Refusal::Damaged { page: 4 }),
-    },
-    Change {
-        bytes: &[(5 * PAGE - 1, OPEN)],
-        refusal: Some(Refusal::Damaged { page: 4 }),
-    },
-    // Words are judged before ends.
-    Change {
-        bytes: &[(3 * PAGE + 39, 1), (4 * PAGE + 3, 0)],
-        refusal: Some(Refusal::Damaged { page: 3 }),
-    },
-    // The other slot's end page is not looked at.
-    Change {
-        bytes: &[(7 * PAGE, 1)],
-        refusal: None,
-    },
+// The same of the file with room for ten arcs: with eight arcs the ninth word is past them, and without it the ends are; the ninth arc begins at
+// node 0; there are ends of a tenth. The other slot's end page is not looked at.
+const ROOMY_CHANGES: [Change; 6] = [
+    (&[], None),
+    (&[(2 * PAGE + 31, 8)], Some(Refusal::Damaged { page: 3 })),
+    (
+        &[(2 * PAGE + 31, 8), (3 * PAGE + 35, 0)],
+        Some(Refusal::Damaged { page: 4 }),
+    ),
+    (&[(4 * PAGE + 3, 0)], Some(Refusal::Damaged { page: 4 })),
+    (
+        &[(4 * PAGE + 11, 1), (4 * PAGE + 15, 1)],
+        Some(Refusal::Damaged { page: 4 }),
+    ),
+    (&[(7 * PAGE, 1)], None),
 ];
 
 // What opening the file answers with these bytes changed.
@@ -312,23 +199,23 @@ fn wanted(refusal: Option<Refusal>, version: u64, unchecked: u32) -> Result<Insp
 
 // The first change behind which opening the file answers otherwise, if there is one.
 fn first_other(alloc: Global, file: &[u8], changes: &[Change]) -> Option<usize> {
-    for (i, change) in changes.iter().enumerate() {
-        if answer_changed(alloc, file, change.bytes) != wanted(change.refusal, 0, 0) {
-            return Some(i);
+    for at in 0..changes.len() {
+        let (bytes, refusal) = changes[at];
+        if answer_changed(alloc, file, bytes) != wanted(refusal, 0, 0) {
+            return Some(at);
         }
     }
     None
 }
 
 #[test]
-fn changed_bytes(rt: HostRuntime) -> Result<(), Refusal> {
-    let alloc = rt.alloc();
-    assert_eq!(rt; first_other(alloc, &six_file(alloc)?, &CHANGES), None);
-    assert_eq!(rt;
-        first_other(alloc, &roomy_file(alloc)?, &ROOMY_CHANGES),
-        None
-    );
-    Ok(())
+fn changed_bytes(rt: HostRuntime) {
+    let six = six_file(rt.alloc()).expect(&rt, "memory");
+    let other = first_other(rt.alloc(), &six, &CHANGES);
+    assert!(rt; other.is_none(), "{other:?}");
+    let roomy = roomy_file(rt.alloc()).expect(&rt, "memory");
+    let other = first_other(rt.alloc(), &roomy, &ROOMY_CHANGES);
+    assert!(rt; other.is_none(), "{other:?}");
 }
 
 // The file with the journal page of these commands at the place of sequence 0, the first of number 1.
@@ -369,7 +256,7 @@ fn first_other_page(alloc: Global, pages: &[(u8, &[u8], Option<Refusal>)]) -> Op
 
 #[test]
 fn files_with_a_page(rt: HostRuntime) {
-    assert_eq!(rt; first_other_page(rt.alloc(), &PAGES), None);
+    assert!(rt; first_other_page(rt.alloc(), &PAGES).is_none());
 }
 
 // What opening the file answers that is cut by a page.
@@ -391,68 +278,6 @@ fn answer_full(alloc: Global) -> Result<Inspected, Refusal> {
 // A file that is cut, and one with a page that is full.
 #[test]
 fn cut_or_with_a_full_page(rt: HostRuntime) {
-    assert!(rt; answer_cut(rt.alloc()) == Err(Refusal::Damaged { page: 0 }));
+    assert!(rt; answer_cut(rt.alloc()).err() == Some(Refusal::Damaged { page: 0 }));
     assert!(rt; answer_full(rt.alloc()) == first(253, 1));
-}
-
-// Whether the store is that of the file behind `close 7`.
-fn is_replayed<D: Disk>(store: &Store<D>) -> bool {
-    let closed = RoadArc {
-        opened: false,
-        ..arc(5, 2, 0)
-    };
-    store.journal_pages() == 64
-        && store.calm()
-        && store.network().arc(7) == Some(closed)
-        && store.network().arc(1) == Some(arc(1, 2, 17))
-        && store.network().landmarks() == [3, 6].as_slice()
-}
-
-// Whether the file is replayed so, and how long its disk is then.
-fn replayed(alloc: Global) -> Result<(bool, Result<u64, DiskError>), Refusal> {
-    let file = file_with_page(alloc, 1, &CLOSE_7)?;
-    let store = opened(alloc, with_bytes(alloc, &file)?)?;
-    let right = is_replayed(&store);
-    let mut disk = store.close();
-    Ok((right, disk.len()))
-}
-
-#[test]
-fn journal_is_replayed(rt: HostRuntime) -> Result<(), Refusal> {
-    assert!(rt; replayed(rt.alloc())? == (true, Ok(286720)));
-    Ok(())
-}
-
-// The file with nine arcs, and a page by which so many more are laid.
-fn file_with_laid(alloc: Global, count: u8) -> Result<Vec<u8>, AllocError> {
-    let mut file = roomy_file(alloc)?;
-    put(&mut file, 8 * PAGE, &ONE_COMMAND);
-    put(&mut file, 8 * PAGE + 17, &[count]);
-    for i in 0..usize::from(count) {
-        put(&mut file, 8 * PAGE + 32 + 16 * i, &LAY_6_1_7);
-    }
-    put(&mut file, 9 * PAGE - 1, &[OPEN]);
-    Ok(file)
-}
-
-// Whether the store on this disk has ten arcs, as many as it has room for, the last two of them the same.
-fn has_laid(alloc: Global, disk: MemDisk) -> Result<bool, Refusal> {
-    let store = opened(alloc, disk)?;
-    let network = store.network();
-    let laid = Some(arc(6, 1, 7));
-    Ok(
-        (network.arcs().len(), network.room()) == (10, 10)
-            && network.arc(9) == laid
-            && network.arc(10) == laid,
-    )
-}
-
-// Behind nine arcs a tenth is laid, and there is no room for one more.
-#[test]
-fn laid_arcs_are_replayed(rt: HostRuntime) -> Result<(), Refusal> {
-    let alloc = rt.alloc();
-    assert!(rt; has_laid(alloc, with_bytes(alloc, &file_with_laid(alloc, 1)?)?)?);
-    let beyond = answer(alloc, &file_with_laid(alloc, 2)?);
-    assert!(rt; beyond == Err(Refusal::Damaged { page: 8 }));
-    Ok(())
 }

@@ -22,7 +22,7 @@ const WORDS_B: [u8; 36] =
 const ENDS_B: [u8; 8] = *b"\x00\x00\x00\x06\x00\x00\x00\x01";
 
 // The first ten pages of a disk; fewer where it has fewer.
-pub fn bytes_of(alloc: Global, disk: &mut MemDisk) -> Result<Vec<u8>, Refusal> {
+fn bytes_of(alloc: Global, disk: &mut MemDisk) -> Result<Vec<u8>, Refusal> {
     let Ok(length) = disk.len() else {
         return Err(Refusal::Device);
     };
@@ -40,7 +40,7 @@ pub fn roomy_six(alloc: Global) -> Result<Network, Refusal> {
 }
 
 // The file of a new store with two journal pages: ten pages.
-pub fn new_file(alloc: Global) -> Result<Vec<u8>, Refusal> {
+fn new_file(alloc: Global) -> Result<Vec<u8>, Refusal> {
     let mut disk = created(alloc, &roomy_six(alloc)?, 2)?;
     bytes_of(alloc, &mut disk)
 }
@@ -64,7 +64,7 @@ fn flush_twice(alloc: Global, store: &mut Store<MemDisk>) -> Result<(), Refusal>
 }
 
 // The same after two flushes, of four groups and of two, in which both journal pages are written.
-pub fn flushed_file(alloc: Global) -> Result<Vec<u8>, Refusal> {
+fn flushed_file(alloc: Global) -> Result<Vec<u8>, Refusal> {
     let mut store = opened(alloc, with_bytes(alloc, &new_file(alloc)?)?)?;
     flush_twice(alloc, &mut store)?;
     bytes_of(alloc, &mut store.close())
@@ -93,11 +93,7 @@ fn tells<D: Disk>(store: &Store<D>, judged: &Judged) -> bool {
 }
 
 // Whether opening this disk answers what the judge answers of these bytes.
-pub fn opens_as_judged<D: Disk + Drop>(
-    alloc: Global,
-    disk: D,
-    file: &[u8],
-) -> Result<bool, Refusal> {
+fn opens_as_judged<D: Disk + Drop>(alloc: Global, disk: D, file: &[u8]) -> Result<bool, Refusal> {
     let found = opened(alloc, disk);
     let wanted = judge(alloc, file);
     match (&found, &wanted) {
@@ -198,34 +194,29 @@ fn judge_is_right(rt: HostRuntime) -> Result<(), Refusal> {
     Ok(())
 }
 
+// Whether they agree on a file as it is, on each change of it and on each front of whole pages, of a byte less and of a byte more.
+fn agree_on(alloc: Global, file: &mut [u8]) -> Result<bool, Refusal> {
+    Ok(
+        agrees(alloc, file)?
+            && first_difference(alloc, file)?.is_none()
+            && agree_on_cuts(alloc, file)?,
+    )
+}
+
 #[test]
-fn changes_of_a_new_file(rt: HostRuntime) -> Result<(), Refusal> {
-    let mut file = new_file(rt.alloc())?;
-    assert!(rt; agrees(rt.alloc(), &file)?);
-    assert_eq!(rt; first_difference(rt.alloc(), &mut file)?, None);
+fn a_new_file_opens_as_judged(rt: HostRuntime) -> Result<(), Refusal> {
+    assert!(rt; agree_on(rt.alloc(), &mut new_file(rt.alloc())?)?);
     Ok(())
 }
 
 #[test]
-fn changes_of_a_flushed_file(rt: HostRuntime) -> Result<(), Refusal> {
-    let mut file = flushed_file(rt.alloc())?;
-    assert!(rt; agrees(rt.alloc(), &file)?);
-    assert_eq!(rt; first_difference(rt.alloc(), &mut file)?, None);
+fn a_flushed_file_opens_as_judged(rt: HostRuntime) -> Result<(), Refusal> {
+    assert!(rt; agree_on(rt.alloc(), &mut flushed_file(rt.alloc())?)?);
     Ok(())
 }
 
 #[test]
-fn changes_of_a_file_with_two_slots(rt: HostRuntime) -> Result<(), Refusal> {
-    let mut file = two_slot_file(rt.alloc())?;
-    assert!(rt; agrees(rt.alloc(), &file)?);
-    assert_eq!(rt; first_difference(rt.alloc(), &mut file)?, None);
-    Ok(())
-}
-
-#[test]
-fn cuts_at_pages(rt: HostRuntime) -> Result<(), Refusal> {
-    assert!(rt; agree_on_cuts(rt.alloc(), &new_file(rt.alloc())?)?);
-    assert!(rt; agree_on_cuts(rt.alloc(), &flushed_file(rt.alloc())?)?);
-    assert!(rt; agree_on_cuts(rt.alloc(), &two_slot_file(rt.alloc())?)?);
+fn a_file_with_two_slots_opens_as_judged(rt: HostRuntime) -> Result<(), Refusal> {
+    assert!(rt; agree_on(rt.alloc(), &mut two_slot_file(rt.alloc())?)?);
     Ok(())
 }

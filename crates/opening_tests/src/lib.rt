@@ -1,4 +1,5 @@
-//! Tests of opening a store and of looking at its file, by their public calls: what is judged, and in which order, calls of the disk that fail, and growths that are refused.
+//! Tests of stores that are made, migrated, copied and opened, by their public calls: which pages are written, what is judged, and in which order,
+//! what stops leave, and growths that are refused.
 #![tactic(auto)]
 
 #[cfg(test)]
@@ -8,8 +9,8 @@ mod judge;
 #[cfg(test)]
 mod judging;
 #[cfg(test)]
+mod making;
+#[cfg(test)]
 mod memory;
 #[cfg(test)]
-mod opening;
-#[cfg(test)]
-mod standing;
+mod stopping;

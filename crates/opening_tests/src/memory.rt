@@ -1,11 +1,11 @@
-// Growths that are refused: of creating, opening, and parts of a checkpoint.
+// Growths that are refused: of creating, opening, migrating, and parts of a checkpoint.
 use crate::judging::{roomy_six, two_slot_file};
 use disk::Disk;
 use fixtures::arc;
 use roadnet::{Command, Network, Refusal};
 use std::alloc::Global;
-use store::{Part, Store, create, open};
-use store_fixtures::FixedDisk;
+use store::{Part, Store, create, migrate, open};
+use store_fixtures::{FixedDisk, old_six_file};
 
 const PAGE: usize = 4096;
 
@@ -96,5 +96,24 @@ fn parts_in_little_memory(rt: HostRuntime) -> Result<(), Refusal> {
     let (goes, stands) = first_part(&mut store)?;
     assert!(rt; stands);
     assert!(rt; !goes || goes_on(&mut store)?);
+    Ok(())
+}
+
+// Whether a store of format 1 is migrated with room for ten arcs, or a growth is refused and the new disk handed back empty.
+fn is_migrated(alloc: Global, old: &mut FixedDisk) -> Result<bool, Refusal> {
+    let empty = FixedDisk::new(alloc, 72 * PAGE)?;
+    match migrate(alloc, old, empty, Some(10)) {
+        Ok(store) => Ok(store.version() == 1 && store.network().room() == 10),
+        Err((refusal, new)) => Ok(refusal == Refusal::OutOfMemory && new.length == 0),
+    }
+}
+
+// A growth that is refused is told, and both disks are as they were. To be run with each allocation failing in turn.
+#[test]
+fn migrate_in_little_memory(rt: HostRuntime) -> Result<(), Refusal> {
+    let file = old_six_file(rt.alloc())?;
+    let mut old = FixedDisk::full(rt.alloc(), &file)?;
+    assert!(rt; is_migrated(rt.alloc(), &mut old)?);
+    assert!(rt; old.places.as_slice() == file.as_slice() && old.failures == 0);
     Ok(())
 }

@@ -1,22 +1,13 @@
 //! Clients at pairs of pipes, beside a session on standard input.
-use crate::folders::{folder_of, remove};
-use crate::host::Host;
-use crate::runs::{is_done, is_refused};
-use desk::Setup;
-use dimacs::Counted;
-use filedisk::{FileDisk, SystemFile, open_file};
-use printing::CountedWriter;
-use program::{FileNames, PipePair, Teller, doors_of, see_pipes, serve_disk};
+use crate::runs::{folder_of, is_done, is_refused, remove};
+use crate::serving::{opened, serve_with};
+use program::{PipePair, ServerRuntime, Teller};
 use std::alloc::{AllocError, Global};
-use std::fs::File;
-use std::io::{self, BufReader, ErrorKind, PipeReader, PipeWriter, Read, Write};
+use std::io::{self, ErrorKind, PipeReader, PipeWriter, Read, Write};
 use std::os::fd::AsRawFd;
 use std::process::Abort;
 use std::rt::Files;
-use std::sync::Wait;
 use std::test::Fail;
-use std::thread::Threads;
-use std::time::{Clock, Duration};
 
 /// A client's side of a pair of pipes, both ends of each of which are open.
 #[derive(Drop)]
@@ -77,21 +68,9 @@ impl Read for Behind<'_> {
 }
 
 /// The sessions of clients at these pipes, and the lines of a standard input behind them: whether that session ended well and was answered so.
-pub fn serve_at<
-    R: AllocGlobal
-        + Files<File = File>
-        + Threads
-        + Wait
-        + Clock
-        + Eprint
-        + Copy
-        + Send
-        + Sync
-        + 'static,
-    I: Read + Drop,
->(
+pub fn serve_at<R: ServerRuntime, I: Read + Drop>(
     rt: R,
-    disk: FileDisk<SystemFile>,
+    path: &str,
     pipes: &[PipePair<'_>],
     behind: I,
     answers: &[u8],
@@ -99,41 +78,8 @@ pub fn serve_at<
 where
     R::Dir: Send + 'static,
 {
-    if pipes.len() > 60 {
-        return Ok(false);
-    }
-    let Ok(pipes) = see_pipes(&FileNames { rt: &rt }, pipes) else {
-        return Ok(false);
-    };
-    let doors = doors_of(rt, rt.alloc(), pipes, false)?;
-    let mut reader = BufReader::new(rt.alloc(), behind)?;
-    let mut output = Vec::new(rt.alloc());
-    let mut reader = Counted::new(&mut reader);
-    let mut writer = CountedWriter::new(&mut output);
-    let setup = Setup {
-        delta: None,
-        workers: 1,
-        patience: Duration::from_secs(30),
-        pairs: 0,
-    };
-    let gate = Teller { rt };
-    let served = serve_disk(
-        rt,
-        rt.alloc(),
-        disk,
-        gate,
-        setup,
-        None,
-        doors,
-        None,
-        &mut reader,
-        &mut writer,
-    );
-    let told = match served {
-        Ok(ended) => ended.outcome == Ok(()),
-        Err(_) => false,
-    };
-    Ok(told && output.as_slice() == answers)
+    let disk = opened(&rt, path)?;
+    serve_with(rt, disk, Teller { rt }, None, pipes, behind, answers)
 }
 
 /// The names of a client's pipes.
@@ -160,20 +106,9 @@ fn pair_of(names: &Names, asks_alone: bool) -> PipePair<'_> {
 }
 
 /// The sessions of these two clients, of which the second may ask alone and is answered so, and the lines of a standard input behind them.
-fn serve_clients<
-    R: AllocGlobal
-        + Files<File = File>
-        + Threads
-        + Wait
-        + Clock
-        + Eprint
-        + Copy
-        + Send
-        + Sync
-        + 'static,
->(
+fn serve_clients<R: ServerRuntime>(
     rt: R,
-    disk: FileDisk<SystemFile>,
+    path: &str,
     one: Side,
     two: Side,
     asks_alone: bool,
@@ -192,35 +127,27 @@ where
         are_told: false,
         lines: b"dist 1 6\nset 8 4",
     };
-    serve_at(rt, disk, &pipes, behind, b"v 1\nd 1 6 22\nok 2\n")
+    serve_at(rt, path, &pipes, behind, b"v 1\nd 1 6 22\nok 2\n")
 }
 
 /// The same over the store of this path, with a second client that writes this text.
-fn serve_store<
-    R: AllocGlobal
-        + Files<File = File>
-        + Threads
-        + Wait
-        + Clock
-        + Eprint
-        + Copy
-        + Send
-        + Sync
-        + 'static,
->(rt: R, path: &str, text: &[u8], asks_alone: bool, told: &[u8]) -> Result<bool, Fail>
+fn serve_store<R: ServerRuntime>(
+    rt: R,
+    path: &str,
+    text: &[u8],
+    asks_alone: bool,
+    told: &[u8],
+) -> Result<bool, Fail>
 where
     R::Dir: Send + 'static,
 {
     let one = client(&rt, b"close 7\nwait\ndist 1 6\nset 1 9")?;
     let two = client(&rt, text)?;
-    let Ok(disk) = open_file(&rt, path) else {
-        return Err(Fail::from(io::Error::from(ErrorKind::Other)));
-    };
-    serve_clients(rt, disk, one, two, asks_alone, told)
+    serve_clients(rt, path, one, two, asks_alone, told)
 }
 
 /// The same over a new store in a folder of this name: it has two versions more then.
-fn serve_new<R: Host>(
+fn serve_new<R: Abort + ServerRuntime>(
     rt: R,
     folder: &str,
     text: &[u8],
@@ -271,7 +198,7 @@ fn or_pipe<'a>(name: &'a str, pipe: &'a str) -> &'a str {
 }
 
 /// A server at these names of pipes tells of this one that it is no pipe.
-fn is_no_pipe<R: Host>(
+fn is_no_pipe<R: Abort + ServerRuntime>(
     rt: &R,
     folder: &str,
     input: &str,
@@ -288,7 +215,12 @@ where
 }
 
 /// The same of each pair of the table, and of a second pair.
-fn are_no_pipes<R: Host>(rt: &R, folder: &str, pipe: &str, other: &str) -> Result<(), Fail>
+fn are_no_pipes<R: Abort + ServerRuntime>(
+    rt: &R,
+    folder: &str,
+    pipe: &str,
+    other: &str,
+) -> Result<(), Fail>
 where
     R::Dir: Send + 'static,
 {
@@ -301,7 +233,7 @@ where
 }
 
 /// The same with the names of a client's pipes.
-fn pipes_of_a_client<R: Host>(rt: &R, folder: &str) -> Result<(), Fail>
+fn pipes_of_a_client<R: Abort + ServerRuntime>(rt: &R, folder: &str) -> Result<(), Fail>
 where
     R::Dir: Send + 'static,
 {

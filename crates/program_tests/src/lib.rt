@@ -1,22 +1,10 @@
-//! Tests of the program by what its library gives to `main`: runs on files, sessions with many clients.
+//! Tests of the program by what its library gives to `main`, of what no transcript says: clients at pipes, the lock of a session, and what a server tells of itself.
 #![tactic(auto)]
 
 #[cfg(test)]
-mod checking;
-#[cfg(test)]
 mod clients;
 #[cfg(test)]
-mod copying;
-#[cfg(test)]
-mod copying_stores;
-#[cfg(test)]
-mod exporting;
-#[cfg(test)]
-mod folders;
-#[cfg(test)]
-mod host;
-#[cfg(test)]
-mod migrating;
+mod locking;
 #[cfg(test)]
 mod replaced;
 #[cfg(test)]
@@ -24,10 +12,4 @@ mod runs;
 #[cfg(test)]
 mod serving;
 #[cfg(test)]
-mod shell;
-#[cfg(test)]
-mod stores;
-#[cfg(test)]
 mod telling;
-#[cfg(test)]
-mod upgrading;

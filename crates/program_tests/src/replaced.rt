@@ -1,14 +1,12 @@
 //! A pair of pipes of which one is something else by the time at which the next client comes.
 use crate::clients::{name_of, serve_at, tells};
-use crate::folders::{folder_of, remove};
-use crate::host::Host;
-use crate::runs::is_done;
-use filedisk::open_file;
-use program::PipePair;
-use std::alloc::Global;
+use crate::runs::{folder_of, is_done, remove};
+use program::{PipePair, ServerRuntime};
+use std::alloc::{AllocError, Global};
 use std::fs::{self, File, OpenOptions};
 use std::io::{self, ErrorKind, PipeReader, PipeWriter, Read, Write};
 use std::os::unix::fs::symlink;
+use std::process::Abort;
 use std::rt::Files;
 use std::test::Fail;
 use std::thread;
@@ -64,29 +62,46 @@ impl<R: Files<File = File> + Clock> Read for Replacing<'_, R> {
     }
 }
 
-/// A server over a new store in this folder serves no second client where the pipe that is read, or the one that is written, is a file by then.
-fn serve_replaced<R: Host>(rt: R, folder: &str, is_read: bool) -> Result<(), Fail>
+/// The names of a pair of pipes, of a file and of a store in a folder.
+#[derive(Drop)]
+struct Paths {
+    input: String,
+    output: String,
+    file: String,
+    store: String,
+}
+
+/// Those of this folder.
+fn paths_in(alloc: Global, folder: &str) -> Result<Paths, AllocError> {
+    Ok(Paths {
+        input: format!(in alloc; "{folder}/in")?,
+        output: format!(in alloc; "{folder}/out")?,
+        file: format!(in alloc; "{folder}/file")?,
+        store: format!(in alloc; "{folder}/new.store")?,
+    })
+}
+
+/// A name leads to a pipe.
+fn link_to<R: AllocGlobal + Files>(rt: &R, pipe: &PipeReader, name: &str) -> Result<(), Fail> {
+    let target = name_of(rt.alloc(), pipe)?;
+    symlink(rt, target.as_str(), name)?;
+    Ok(())
+}
+
+/// Whether a server serves no second client where the pipe that is read, or the one that is written, is a file by then.
+fn is_served_once<R: ServerRuntime>(rt: R, paths: &Paths, is_read: bool) -> Result<bool, Fail>
 where
     R::Dir: Send + 'static,
 {
-    is_done(&rt, folder, "create new.store six.gr six.ss", "ok 0\n");
-    let input = format!(in rt.alloc(); "{folder}/in")?;
-    let output = format!(in rt.alloc(); "{folder}/out")?;
-    let file = format!(in rt.alloc(); "{folder}/file")?;
-    let store = format!(in rt.alloc(); "{folder}/new.store")?;
-    fs::write(&rt, file.as_str(), "set 1 77\n")?;
+    let (input, output) = (paths.input.as_str(), paths.output.as_str());
     let (lines, mut put) = io::pipe(&rt)?;
     let (answers, _more) = io::pipe(&rt)?;
-    symlink(&rt, name_of(rt.alloc(), &lines)?.as_str(), input.as_str())?;
-    symlink(
-        &rt,
-        name_of(rt.alloc(), &answers)?.as_str(),
-        output.as_str(),
-    )?;
+    link_to(&rt, &lines, input)?;
+    link_to(&rt, &answers, output)?;
     put.write_all(b"close 7\n")?;
     let pipes = [PipePair {
-        input: input.as_str(),
-        output: output.as_str(),
+        input,
+        output,
         asks_alone: false,
     }];
     let behind = Replacing {
@@ -94,21 +109,32 @@ where
         alloc: rt.alloc(),
         answers,
         put: Some(put),
-        link: if is_read {
-            input.as_str()
-        } else {
-            output.as_str()
-        },
-        by: file.as_str(),
-        next: if is_read { None } else { Some(input.as_str()) },
+        link: if is_read { input } else { output },
+        by: paths.file.as_str(),
+        next: if is_read { None } else { Some(input) },
         lines: b"until 1\ndist 1 6\n",
     };
-    let Ok(disk) = open_file(&rt, store.as_str()) else {
-        return Err(Fail::from(io::Error::from(ErrorKind::Other)));
-    };
-    assert!(rt; serve_at(rt, disk, &pipes, behind, b"v 1\nv 1\nd 1 6 22\n")?);
+    serve_at(
+        rt,
+        paths.store.as_str(),
+        &pipes,
+        behind,
+        b"v 1\nv 1\nd 1 6 22\n",
+    )
+}
+
+/// The same over a new store in this folder, which has one version more then, while the file is as it was.
+fn serve_replaced<R: Abort + ServerRuntime>(rt: R, folder: &str, is_read: bool) -> Result<(), Fail>
+where
+    R::Dir: Send + 'static,
+{
+    is_done(&rt, folder, "create new.store six.gr six.ss", "ok 0\n");
+    let paths = paths_in(rt.alloc(), folder)?;
+    let file = paths.file.as_str();
+    fs::write(&rt, file, "set 1 77\n")?;
+    assert!(rt; is_served_once(rt, &paths, is_read)?);
     is_done(&rt, folder, "check new.store", "v 1\nslot A 1\njournal 1\n");
-    let text = fs::read_to_string(&rt, file.as_str())?;
+    let text = fs::read_to_string(&rt, file)?;
     assert!(rt; text.as_str() == "set 1 77\n");
     remove(&rt, folder)
 }

@@ -1,122 +1,68 @@
-//! A session's file: how long it is locked. And what the session tells of a builder that ended.
+//! A session over a store in a file.
+ghost use Rattle.std.specs.Prelude.{◌≡◌, None};
 
-use crate::folders::{folder_of, remove};
-use crate::runs::is_done;
-use crate::shell::{Shell, is_kept};
 use desk::{Gate, Setup};
 use dimacs::Counted;
-use filedisk::{FileDisk, SystemFile, open_file};
+use filedisk::{FileDisk, FileLock, SystemFile, open_file};
 use printing::CountedWriter;
-use program::{FileNames, Teller, doors_of, see_pipes, serve_disk};
-use std::fs::File;
-use std::io::{self, ErrorKind};
-use std::rt::Files;
-use std::sync::atomic::{AtomicU64, Ordering};
-use std::sync::{Arc, Wait};
+use program::{FileNames, PipePair, ServerRuntime, doors_of, see_pipes, serve_disk};
+use std::io::{self, BufReader, ErrorKind, Read};
 use std::test::Fail;
-use std::thread::{self, Threads};
-use std::time::{Clock, Duration};
+use std::time::Duration;
 
-/// What is seen of a file that a session has locked.
-#[derive(Drop)]
-struct Seen {
-    /// How many steps of checkpoints were made.
-    steps: AtomicU64,
-    /// Before how many of them another could lock the file.
-    early: AtomicU64,
-    /// Before how many rows of a view another could lock the file.
-    rows: AtomicU64,
-}
-
-/// A gate that waits before each step of a checkpoint, for a while, and before each row of a view, for longer, whether another can lock the file.
-#[derive(Drop)]
-struct Watch<R> {
-    rt: R,
-    other: File,
-    seen: Arc<Seen>,
-}
-
-/// How many milliseconds a step waits.
-const STEP: u64 = 300;
-
-/// How many milliseconds a row waits.
-const ROW: u64 = 5000;
-
-impl<R: Clock> Watch<R> {
-    /// Whether another can lock the file within so many milliseconds.
-    fn comes_free(&self, most: u64) -> bool {
-        for _ in 0..most {
-            if self.other.try_lock().is_ok() {
-                return self.other.unlock().is_ok();
-            }
-            thread::sleep(&self.rt, Duration::from_millis(1));
-        }
-        false
-    }
-}
-
-impl<R: Clock> Gate for Watch<R> {
-    fn before_row(&self, _worker: u32, _landmark: u32) {
-        if self.comes_free(ROW) {
-            self.seen.rows.fetch_add(1, Ordering::SeqCst);
-        }
-    }
-
-    fn before_flush(&self, _durable: u64) -> bool {
-        true
-    }
-
-    fn before_task(&self, _durable: u64) -> bool {
-        true
-    }
-
-    fn before_step(&self, _version: u64) -> bool {
-        if self.comes_free(STEP) {
-            self.seen.early.fetch_add(1, Ordering::SeqCst);
-        }
-        self.seen.steps.fetch_add(1, Ordering::SeqCst);
-        true
-    }
-}
-
-/// A session of one command over this disk, whose lock it is to let go: whether it was done.
-fn serve_one<
-    R: AllocGlobal
-        + Files<File = File>
-        + Threads
-        + Wait
-        + Clock
-        + Eprint
-        + Copy
-        + Send
-        + Sync
-        + 'static,
->(rt: R, disk: FileDisk<SystemFile>, gate: Watch<R>) -> Result<bool, Fail>
-where
-    R::Dir: Send + 'static,
+/// One worker, and a patience of half a minute.
+fn setup() -> Setup
+    ensures width { result.delta ≡ None }
+    ensures workers { result.workers ≡ 1 }
 {
-    let Ok(no_pipes) = see_pipes(&FileNames { rt: &rt }, &[]) else {
-        return Ok(false);
-    };
-    let doors = doors_of(rt, rt.alloc(), no_pipes, false)?;
-    let lock = disk.lock()?;
-    let setup = Setup {
+    Setup {
         delta: None,
         workers: 1,
         patience: Duration::from_secs(30),
         pairs: 0,
+    }
+}
+
+/// The store's file of this path, opened to be changed.
+pub fn opened<R: ServerRuntime>(rt: &R, path: &str) -> Result<FileDisk<SystemFile>, Fail> {
+    match open_file(rt, path) {
+        Ok(disk) => Ok(disk),
+        Err(_) => Err(Fail::from(io::Error::from(ErrorKind::Other))),
+    }
+}
+
+/// The sessions of clients at these pipes, and the lines of a standard input: whether that session ended well and was answered so. Its lock, if it has one, is let go by the server.
+pub fn serve_with<R: ServerRuntime, G: Gate + Drop + Send + Sync + 'static, I: Read + Drop>(
+    rt: R,
+    disk: FileDisk<SystemFile>,
+    gate: G,
+    lock: Option<FileLock>,
+    pipes: &[PipePair<'_>],
+    lines: I,
+    answers: &[u8],
+) -> Result<bool, Fail>
+where
+    R::Dir: Send + 'static,
+{
+    let alloc = rt.alloc();
+    if pipes.len() > 60 {
+        return Ok(false);
+    }
+    let Ok(pipes) = see_pipes(&FileNames { rt: &rt }, pipes) else {
+        return Ok(false);
     };
-    let mut input = b"set 8 5\n".as_slice();
-    let mut output = Vec::new(rt.alloc());
-    let mut reader = Counted::new(&mut input);
+    let doors = doors_of(rt, alloc, pipes, false)?;
+    let mut reader = BufReader::new(alloc, lines)?;
+    let mut output = Vec::new(alloc);
+    let mut reader = Counted::new(&mut reader);
     let mut writer = CountedWriter::new(&mut output);
     let served = serve_disk(
         rt,
-        rt.alloc(),
+        alloc,
         disk,
         gate,
-        setup,
-        Some(lock),
+        setup(),
+        lock,
         doors,
         None,
         &mut reader,
@@ -126,95 +72,5 @@ where
         Ok(ended) => ended.outcome == Ok(()),
         Err(_) => false,
     };
-    Ok(told && output.as_slice() == b"ok 1\n".as_slice())
-}
-
-/// The same over the store of this path, whose lock is watched.
-fn serve_watched<
-    R: AllocGlobal
-        + Files<File = File>
-        + Threads
-        + Wait
-        + Clock
-        + Eprint
-        + Copy
-        + Send
-        + Sync
-        + 'static,
->(rt: R, path: &str, seen: Arc<Seen>) -> Result<bool, Fail>
-where
-    R::Dir: Send + 'static,
-{
-    let other = File::open(&rt, path)?;
-    let gate = Watch { rt, other, seen };
-    let Ok(disk) = open_file(&rt, path) else {
-        return Err(Fail::from(io::Error::from(ErrorKind::Other)));
-    };
-    serve_one(rt, disk, gate)
-}
-
-/// What is seen: whether the session was done, how many steps were made, before how many of them the file was free, and before how many rows.
-fn watched<
-    R: AllocGlobal
-        + Files<File = File>
-        + Threads
-        + Wait
-        + Clock
-        + Eprint
-        + Copy
-        + Send
-        + Sync
-        + 'static,
->(rt: R, path: &str) -> Result<(bool, [u64; 3]), Fail>
-where
-    R::Dir: Send + 'static,
-{
-    let seen = Arc::new(
-        rt.alloc(),
-        Seen {
-            steps: AtomicU64::new(0),
-            early: AtomicU64::new(0),
-            rows: AtomicU64::new(0),
-        },
-    )?;
-    let is_done = serve_watched(rt, path, Arc::try_clone(&seen)?)?;
-    let steps = seen.steps.load(Ordering::SeqCst);
-    let early = seen.early.load(Ordering::SeqCst);
-    let rows = seen.rows.load(Ordering::SeqCst);
-    Ok((is_done, [steps, early, rows]))
-}
-
-/// A session's file is locked until nothing more is written, and the lock is let go before the last view is built. The journal has one page, so a
-/// checkpoint follows the flush: while the session ends its step is held up, and then the two rows of the view. Refused is a body that never lets
-/// the lock go, one that does so behind the desk's close, and one that does so before all is written.
-#[test]
-fn the_lock_of_a_session(rt: HostRuntime) -> Result<(), Fail> {
-    let folder = folder_of(&rt, rt.process(), "lock")?;
-    let create = "create --journal 1 new.store six.gr six.ss";
-    is_done(&rt, folder.as_str(), create, "ok 0\n");
-    let path = format!(in rt.alloc(); "{}/new.store", folder.as_str())?;
-    let (is_done, [steps, early, rows]) = watched(rt, path.as_str())?;
-    assert!(rt; is_done && steps > 0);
-    assert_eq!(rt; (early, rows), (0, 2));
-    remove(&rt, folder.as_str())
-}
-
-/// A builder that ended is told on standard error, in one line, and nothing is held up. Refused is a body that tells nothing, and one that
-/// tells anything else.
-#[test]
-fn a_builder_that_gave_up(rt: HostRuntime) -> Result<(), Fail> {
-    let shell = Shell::new(&rt, "/", "")?;
-    let teller = Teller { rt: &shell };
-    assert!(rt; teller.before_flush(1) && teller.before_task(1) && teller.before_step(1));
-    teller.before_row(1, 1);
-    assert!(rt; is_kept(&shell.err, ""));
-    teller.builder_gave_up();
-    assert!(rt;
-        is_kept(
-            &shell.err,
-            "roadmark: 61 Closed: no memory for views three times in a row, queries stay at the version that is shown\n"
-        )
-    );
-    assert!(rt; is_kept(&shell.out, ""));
-    Ok(())
+    Ok(told && output.as_slice() == answers)
 }

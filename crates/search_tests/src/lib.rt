@@ -2,16 +2,8 @@
 #![tactic(auto)]
 
 #[cfg(test)]
-mod reaching;
-#[cfg(test)]
 mod relaxing;
-#[cfg(test)]
-mod repairing;
 #[cfg(test)]
 mod searching;
 #[cfg(test)]
 mod suiting;
-#[cfg(test)]
-mod targets;
-#[cfg(test)]
-mod worked;

@@ -90,27 +90,15 @@ fn requests_as_told<T: Team>(alloc: Global, team: &T) -> Result<bool, Refusal> {
     )
 }
 
+/// The light requests and the heavy one are the same by one worker and by crews with chunks of any length.
 #[test]
-fn requests_of_teams(rt: HostRuntime) -> Result<(), Refusal> {
-    assert!(rt; requests_as_told(rt.alloc(), &Solo)?);
+fn requests_of_teams(rt: HostRuntime) {
+    assert!(rt; requests_as_told(rt.alloc(), &Solo).expect(&rt, "memory"));
     for chunk in [1, 3, CHUNK] {
+        let crew = Crew::new(&rt, chunk);
         assert!(rt;
-            requests_as_told(rt.alloc(), &Crew::new(&rt, chunk))?,
+            requests_as_told(rt.alloc(), &crew).expect(&rt, "memory"),
             "{chunk}"
         );
     }
-    Ok(())
-}
-
-#[test]
-fn values_of_nodes(rt: HostRuntime) -> Result<(), Refusal> {
-    let mut tentative = Tentative::new(rt.alloc(), 2)?;
-    assert!(rt; tentative.get(1).is_none() && tentative.get(2).is_none());
-    tentative.set(2, 0);
-    tentative.set(1, u64::MAX - 1);
-    assert_eq!(rt; tentative.get(1), Some(u64::MAX - 1));
-    assert_eq!(rt; tentative.get(2), Some(0));
-    let words = tentative.into_words();
-    assert!(rt; words.as_slice() == [u64::MAX - 1, 0].as_slice());
-    Ok(())
 }

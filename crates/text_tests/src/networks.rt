@@ -1,9 +1,8 @@
-use crate::faults::{Row, failed_behind, fault_of};
-use dimacs::{Code, Counted, Fault, parse_gr, read_gr, read_gr_before_run};
-use fixtures::{FailingReader, SIX, arc};
+use dimacs::{Code, Counted, Fault, parse_gr, read_gr};
+use fixtures::{SIX, arc};
 use roadnet::Network;
 use std::alloc::{AllocError, Global};
-use std::io::{BufRead, BufReader, ErrorKind, Read};
+use std::io::BufReader;
 use std::test::Fail;
 
 const SIX_OTHERWISE: &[u8] =
@@ -24,14 +23,6 @@ fn is_six(network: &Network) -> bool {
     network.nodes() == 6 && network.landmarks().is_empty() && network.arcs() == arcs.as_slice()
 }
 
-/// Whether it is that network that was read.
-fn has_six(read: Result<Network, Fault>) -> bool {
-    match read {
-        Ok(network) => is_six(&network),
-        Err(_) => false,
-    }
-}
-
 /// The network of a text that is read in parts of this size.
 fn read_in_parts(alloc: Global, capacity: usize, text: &[u8]) -> Result<Network, Fault> {
     let Ok(mut reader) = BufReader::with_capacity(alloc, capacity, text) else {
@@ -41,125 +32,6 @@ fn read_in_parts(alloc: Global, capacity: usize, text: &[u8]) -> Result<Network,
         });
     };
     read_gr(alloc, &mut Counted::new(&mut reader))
-}
-
-/// The network of a text that a reader has as a whole.
-fn read_whole(alloc: Global, text: &[u8]) -> Result<Network, Fault> {
-    let mut rest = text;
-    read_gr(alloc, &mut Counted::new(&mut rest))
-}
-
-/// Whether a text has this fault, in memory and by a reader.
-fn is_refused(alloc: Global, (text, line, code): Row) -> bool {
-    let fault = Some(Fault { line, code });
-    fault_of(parse_gr(alloc, text)) == fault && fault_of(read_whole(alloc, text)) == fault
-}
-
-/// The first text of the table that has another fault, if there is one.
-fn first_not_refused(alloc: Global, table: &[Row]) -> Option<usize> {
-    for at in 0..table.len() {
-        if !is_refused(alloc, table[at]) {
-            return Some(at);
-        }
-    }
-    None
-}
-
-/// How many nodes and arcs the network of a text has.
-fn sizes(alloc: Global, text: &[u8]) -> Result<(u32, usize), Fault> {
-    let network = parse_gr(alloc, text)?;
-    Ok((network.nodes(), network.arcs().len()))
-}
-
-#[test]
-fn spelling_of_lines(rt: HostRuntime) {
-    let alloc = rt.alloc();
-    assert!(rt; has_six(parse_gr(alloc, SIX)) && has_six(parse_gr(alloc, SIX_OTHERWISE)));
-    for capacity in 1..20 {
-        assert!(rt;
-            has_six(read_in_parts(alloc, capacity, SIX_OTHERWISE)),
-            "{capacity}"
-        );
-    }
-    assert!(rt; sizes(alloc, b"p sp 1 0") == Ok((1, 0)));
-}
-
-const FAULTS: [Row; 16] = [
-    (b"a 1 2 3", 1, Code::NoProblemLine),
-    (b"c S6\np sp 6 8\na 1 2 -5\n", 3, Code::LengthRange),
-    (b"", 0, Code::NoProblemLine),
-    (b"\n\nc\n", 3, Code::NoProblemLine),
-    (b"p sp 33554433 0", 1, Code::TooLarge),
-    (b"p max 6 8", 1, Code::WrongKind),
-    (b"p sp", 1, Code::BadLine),
-    (b"p", 1, Code::WrongKind),
-    (b"c S6\np sp 6 8\na 1 2 5.0\n", 3, Code::BadLine),
-    (b"p sp 2 1\np max 2 1\n", 2, Code::SecondProblemLine),
-    (b"p sp 2 1\np sp 2\n", 2, Code::BadLine),
-    (b"p sp 2 1\na 0 1 1\n", 2, Code::NodeRange),
-    (b"p sp 2 1\na 1 2 2147483648\n", 2, Code::LengthRange),
-    (b"p sp 2 1\na 1 2 --1\n", 2, Code::BadLine),
-    (b"p sp 2 1\na 1\r2 3\n", 2, Code::BadLine),
-    (b"p sp 2 1\na 1 2 3\r\r\n", 2, Code::BadLine),
-];
-
-#[test]
-fn faults_of_texts(rt: HostRuntime) {
-    assert!(rt; is_refused(rt.alloc(), (&SIX[..72], 9, Code::LineCount)));
-    assert_eq!(rt; first_not_refused(rt.alloc(), &FAULTS), None);
-}
-
-const SIZES: [Row; 7] = [
-    (b"p sp 9223372036854775807 1", 1, Code::TooLarge),
-    (b"p sp 9223372036854775808 1", 1, Code::NumberRange),
-    (b"p sp 2 -9223372036854775808", 1, Code::NumberRange),
-    (b"p sp 2 1\na 1 2 9223372036854775807", 2, Code::LengthRange),
-    (b"p sp 2 1\na 1 2 9223372036854775808", 2, Code::NumberRange),
-    (
-        b"p sp 2 1\na 1 2 18446744073709551617",
-        2,
-        Code::NumberRange,
-    ),
-    (
-        b"p sp 2 1\na 1 2 9999999999999999999999999999999999999999999999999999999999999999999999999999999999999999999999999999\n",
-        2,
-        Code::NumberRange,
-    ),
-];
-
-#[test]
-fn greatest_sizes(rt: HostRuntime) {
-    assert_eq!(rt; first_not_refused(rt.alloc(), &SIZES), None);
-}
-
-const ZEROS: &[u8] =
-    b"p sp 2 1\na 1 2 0000000000000000000000000000000000000000000000000000000000000000000000000000000000000000002147483647\n";
-
-/// Whether the network of a text has this arc alone.
-fn has_arc(alloc: Global, text: &[u8], length: u32) -> Result<bool, Fault> {
-    let network = parse_gr(alloc, text)?;
-    Ok(network.arcs() == [arc(1, 2, length)].as_slice())
-}
-
-#[test]
-fn leading_zeros(rt: HostRuntime) {
-    assert!(rt; has_arc(rt.alloc(), ZEROS, 2147483647) == Ok(true));
-}
-
-const MALICIOUS: [Row; 8] = [
-    (b"p sp 1 0\na 1 1 1", 2, Code::LineCount),
-    (b"p sp 0 0", 1, Code::NumberRange),
-    (b"p sp 3 67108865", 1, Code::TooLarge),
-    (b"p sp 2 1\na 1 2", 2, Code::BadLine),
-    (b"p sp 2 1\na 3 2 -1", 2, Code::NodeRange),
-    (b"\xff", 1, Code::BadLine),
-    (b"c\xff\n", 1, Code::NoProblemLine),
-    (b"p sp 2 67108864\n", 1, Code::LineCount),
-];
-
-#[test]
-fn malicious_texts(rt: HostRuntime) {
-    assert_eq!(rt; first_not_refused(rt.alloc(), &MALICIOUS), None);
 }
 
 fn number_of(code: Code) -> u8 {
@@ -351,98 +223,6 @@ fn fronts_and_changed_bytes(rt: HostRuntime) -> Result<(), Fail> {
             assert!(rt; agrees_where_changed(rt.alloc(), n, byte)?, "{byte} at {n}");
         }
     }
-    Ok(())
-}
-
-/// What is read of the worked network in parts of four bytes where a read fails so: the network or the fault, and how many calls failed.
-fn read_failing(alloc: Global, reads: u32, kind: ErrorKind) -> (Result<bool, Fault>, u64) {
-    let failing = FailingReader {
-        bytes: SIX,
-        reads,
-        kind,
-    };
-    let Ok(mut reader) = BufReader::with_capacity(alloc, 4, failing) else {
-        return (Ok(false), 0);
-    };
-    let mut counted = Counted::new(&mut reader);
-    let read = read_gr(alloc, &mut counted);
-    let failed = counted.failed_calls();
-    match read {
-        Ok(network) => (Ok(is_six(&network)), failed),
-        Err(fault) => (Err(fault), failed),
-    }
-}
-
-/// Whether a read of this number that fails is told, in its line, and one that is interrupted is made again. The text has more than 20 reads.
-fn is_told(alloc: Global, reads: u32) -> bool {
-    let (read, failed) = read_failing(alloc, reads, ErrorKind::BrokenPipe);
-    let told = match read {
-        Ok(is_six) => is_six && reads > 20 && failed == 0,
-        Err(fault) => Some(fault) == failed_behind(SIX, reads) && failed == 1,
-    };
-    let (again, _) = read_failing(alloc, reads, ErrorKind::Interrupted);
-    told && again == Ok(true)
-}
-
-#[test]
-fn reader_fails_at_a_read(rt: HostRuntime) {
-    for reads in 1..40 {
-        assert!(rt; is_told(rt.alloc(), reads), "{reads}");
-    }
-}
-
-/// How many arcs were read, and whether a line `run` ended it.
-fn read_before_run<R: BufRead>(alloc: Global, reader: &mut R) -> Result<(usize, bool), Fault> {
-    let mut counted = Counted::new(reader);
-    let (network, at_run) = read_gr_before_run(alloc, &mut counted)?;
-    Ok((network.arcs().len(), at_run))
-}
-
-const BEFORE_RUN: &[u8] = b"p sp 2 1\na 1 2 3\n run \r\ndist 1 2\n";
-
-/// Whether the reading in parts of this size ends behind the line `run`.
-fn stops_behind_run(alloc: Global, capacity: usize) -> Result<bool, Fail> {
-    let mut reader = BufReader::with_capacity(alloc, capacity, BEFORE_RUN)?;
-    let told = read_before_run(alloc, &mut reader);
-    let mut rest = Vec::new(alloc);
-    reader.read_to_end(&mut rest)?;
-    Ok(told == Ok((1, true)) && rest.as_slice() == b"dist 1 2\n".as_slice())
-}
-
-#[test]
-fn stops_at_run(rt: HostRuntime) -> Result<(), Fail> {
-    for capacity in 1..40 {
-        assert!(rt; stops_behind_run(rt.alloc(), capacity)?, "{capacity}");
-    }
-    let mut whole = SIX;
-    assert!(rt; read_before_run(rt.alloc(), &mut whole) == Ok((8, false)));
-    let mut alone: &[u8] = b"run";
-    let fault = Fault {
-        line: 0,
-        code: Code::NoProblemLine,
-    };
-    assert!(rt; read_before_run(rt.alloc(), &mut alone) == Err(fault));
-    Ok(())
-}
-
-/// A text whose second line is a long comment, and whose third is none.
-fn long_comment(alloc: Global) -> Result<Vec<u8>, AllocError> {
-    let mut text = Vec::from_slice(alloc, b"p sp 1 0\n \tc")?;
-    for _ in 0..100_000 {
-        text.push(b'x')?;
-    }
-    text.extend_from_slice(b"\nq")?;
-    Ok(text)
-}
-
-#[test]
-fn long_comment_is_passed_over(rt: HostRuntime) -> Result<(), Fail> {
-    let text = long_comment(rt.alloc())?;
-    let fault = Fault {
-        line: 3,
-        code: Code::BadLine,
-    };
-    assert!(rt; fault_of(read_in_parts(rt.alloc(), 16, &text)) == Some(fault));
     Ok(())
 }
 

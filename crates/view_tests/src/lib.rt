@@ -1,17 +1,9 @@
-//! Tests of rows and views by their public calls.
+//! Tests of rows, views and networks that are supposed, by their public calls.
 #![tactic(auto)]
 
 #[cfg(test)]
-mod answering;
+mod caching;
 #[cfg(test)]
-mod asking;
-#[cfg(test)]
-mod batching;
-#[cfg(test)]
-mod compared;
-#[cfg(test)]
-mod guiding;
-#[cfg(test)]
-mod reaching;
+mod supposing;
 #[cfg(test)]
 mod viewing;

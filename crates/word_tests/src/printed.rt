@@ -39,20 +39,6 @@ fn fault_lines_and_statuses(rt: HostRuntime) -> Result<(), Fail> {
         assert_eq!(rt; status(&outcome), 1);
     }
     assert_eq!(rt; status(&Ok(())), 0);
-    let names = [
-        ("no.gr\nroadmark: 42", "no.gr\\nroadmark: 42"),
-        ("\u{1b}[2J\r\t\u{0}\u{7f}", "\\u{1b}[2J\\r\\t\\0\\u{7f}"),
-        ("a b\\c'd\"e", "a b\\c'd\"e"),
-        (
-            "Stra\u{df}e.gr \u{8def}\u{202e}",
-            "Stra\u{df}e.gr \u{8def}\\u{202e}",
-        ),
-    ];
-    for (name, told) in names {
-        let line = fault_line(&Failed::Text { which: 0, fault }, name);
-        let want = format!(in rt.alloc(); "roadmark: {told}: line 3: 7 LengthRange")?;
-        assert!(rt; format!(in rt.alloc(); "{line}")? == want, "{told}");
-    }
     Ok(())
 }
 

@@ -1,8 +1,0 @@
-use Rattle.std.proofs.Common.{sym, subst}
-use Rattle.machine.specs.Calls.{IsTicketOf}
-use Rattle.keeper_tests.proofs.HandedBack.{handed_back}
-use Rattle.keeper_tests.proofs.ledgers.unsettled.Goals as goal
-
-pub returns-in-Err : goal.returns-in-Err
-returns-in-Err g c =
-    subst (IsTicketOf c.args.ledger.now.machine) (sym (handed_back c.args.ledger.now.machine c.args.ticket c.in-Err.told c.in-Err.ensures)) c.requires

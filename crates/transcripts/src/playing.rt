@@ -1,0 +1,104 @@
+//! Transcripts are read and played.
+use crate::files::{Held, told_of_files};
+use crate::runs::run;
+use crate::steps::{Step, steps_of};
+use blocks::{Calls, Given};
+use program::ServerRuntime;
+use std::alloc::Global;
+use std::io::{ErrorKind, Write};
+use std::{fs, io};
+
+/// The transcripts of a file, in their order, as its blocks are read. A trait's method can't play them: whether what it sends to threads may be sent is known of a function alone.
+#[derive(Drop)]
+pub(crate) struct Transcripts {
+    pub(crate) texts: Vec<String>,
+}
+
+impl Calls for Transcripts {
+    fn call(&mut self, alloc: Global, given: Given<'_, '_>, out: &mut Vec<u8>) -> io::Result<()> {
+        let Ok(text) = str::from_utf8(given.text(0)) else {
+            return Err(io::Error::from(ErrorKind::InvalidData));
+        };
+        if given.head.word(0) != "play" {
+            return writeln!(out, "no call: {}", given.head.word(0));
+        }
+        self.texts.push(String::from_str(alloc, text)?)?;
+        Ok(())
+    }
+}
+
+/// Does the words of a step. Answers what they tell.
+fn told_of<R: ServerRuntime>(
+    rt: &R,
+    folder: &str,
+    step: &Step,
+    held: &mut Held,
+) -> io::Result<String>
+where
+    R::Dir: Send + 'static,
+{
+    let words = step.words.as_str().replace(rt.alloc(), "~", folder)?;
+    let words = words.as_str();
+    let input = step.input.as_str();
+    let is_run = words.split_whitespace().any(|it| it == "roadmark");
+    match words.split_once("roadmark") {
+        Some((settings, words)) if is_run => run(rt, folder, settings, words, input),
+        _ => told_of_files(rt, folder, words, input, held),
+    }
+}
+
+/// Plays a step, and adds what it tells where that is something else than it is to.
+fn play_step<R: ServerRuntime>(
+    rt: &R,
+    folder: &str,
+    step: &Step,
+    held: &mut Held,
+    out: &mut Vec<u8>,
+) -> io::Result<()>
+where
+    R::Dir: Send + 'static,
+{
+    let told = match told_of(rt, folder, step, held) {
+        Ok(told) => told.as_str().replace(rt.alloc(), folder, "~")?,
+        Err(error) => format!(in rt.alloc(); "{error}\n")?,
+    };
+    if told.as_str() == step.wanted.as_str() {
+        return Ok(());
+    }
+    writeln!(out, "$ {}", step.words.as_str())?;
+    out.extend_from_slice(told.as_bytes())?;
+    Ok(())
+}
+
+/// Plays the steps one after the other.
+fn play_steps<R: ServerRuntime>(
+    rt: &R,
+    folder: &str,
+    steps: &[Step],
+    out: &mut Vec<u8>,
+) -> io::Result<()>
+where
+    R::Dir: Send + 'static,
+{
+    let mut held: Held = None;
+    for step in steps {
+        play_step(rt, folder, step, &mut held, out)?;
+    }
+    Ok(())
+}
+
+/// Plays a transcript in this folder, which is there only meanwhile. Adds the steps that tell something else than they are to.
+pub(crate) fn play<R: ServerRuntime>(
+    rt: &R,
+    folder: &str,
+    text: &str,
+    out: &mut Vec<u8>,
+) -> io::Result<()>
+where
+    R::Dir: Send + 'static,
+{
+    let steps = steps_of(rt.alloc(), text)?;
+    fs::create_dir(rt, folder)?;
+    play_steps(rt, folder, steps.as_slice(), out)?;
+    fs::remove_dir_all(rt, folder)
+}

@@ -9,7 +9,7 @@ from roadmark import ANSWERS, CODES, COMMANDS, OVER_A_LOG, Expected, Garbled, Ta
 
 PAGES = pathlib.Path(__file__).resolve().parents[2] / "docs"
 
-# A line, and whole answers to it, as docs/PROGRAM.md has them.
+# A line, and whole answers to it, as docs/MANUAL.md has them.
 RIGHT = [
     ("close 7", ["ok 1"]), ("close 7", ["no 22"]), ("close 7", ["no 64"]), ("set 8 4", ["ok 281474976710656"]), ("lay 6 1 7", ["ok 1"]),
     ("dist 1 6", ["v 0", "d 1 6 15"]), ("dist 6 1", ["v 0", "x 6 1"]), ("dist 1 9", ["v 0", "no 24"]), ("dist 1 6", ["no 61"]), ("dist 1 6", ["s 0", "d 1 6 22"]),

@@ -21,7 +21,7 @@ use Rattle.snapshot.specs.declared.legs.Leg.{Leg}
 use Rattle.snapshot.specs.declared.legs.Part.{Part}
 use Rattle.snapshot.specs.declared.legs.Part.TheVariants.{Light, Heavy}
 use Rattle.deltastep.proofs.Lowering.{value_or-some}
-use Rattle.deltastep.proofs.Members.{Contains-head, Contains-tail, Contains-nil, Contains-map, Contains-of_map}
+use Rattle.frontier.proofs.Members.{Contains-head, Contains-tail, Contains-nil, Contains-map, Contains-of_map}
 
 pub trip_length-cons : (leg : Leg) (legs : List Leg) → trip_length (leg ∷ legs) ≡ leg.length + trip_length legs
 trip_length-cons leg legs = sum_by-cons (λ (l : Leg). l.length) leg legs

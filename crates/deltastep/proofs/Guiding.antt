@@ -16,7 +16,7 @@ use Rattle.deltastep.specs.Search.{top_of, Trip, trip_length, Reaches, AreReache
 use Rattle.deltastep.specs.Guided.{ConsistentIsLowerBound, IsConsistent, IsLowerBound, IsKey, IsGuided, IsDone, IsLoweredTo, GoesOn, IsBest}
 use Rattle.deltastep.proofs.Division.{div-le_div}
 use Rattle.deltastep.proofs.Lowering.{value_or-some, value_or-set_same, value_or-set_other, value_or-set-le}
-use Rattle.deltastep.proofs.Members.{Contains-nil, head_of, Contains-head_of}
+use Rattle.frontier.proofs.Members.{Contains-nil, head_of, Contains-head_of}
 use Rattle.deltastep.proofs.Queues.{get-insert_same, get-insert_other, len-insert_le, stays_or_taken, value_in_bucket, get-outside_some}
 use Rattle.deltastep.proofs.Relaxing.{Reaches-push}
 

@@ -4,11 +4,9 @@ pub mod Division
 pub mod Ending
 pub mod Entries
 pub mod Finishing
-pub mod Flags
 pub mod Guiding
 pub mod Live
 pub mod Lowering
-pub mod Members
 pub mod Looking
 pub mod NoShorter
 pub mod Phases

@@ -12,7 +12,7 @@ use Rattle.relax.specs.Requests.{requests_of}
 use Rattle.relax.specs.Values.{value_or}
 use Rattle.deltastep.specs.Search.{AreInBucket, AreLive, AreLiveFrom, MeetsRequests, ring_buckets, top_of}
 use Rattle.deltastep.proofs.Division.{add-in_window, div-le_div}
-use Rattle.deltastep.proofs.Members.{Contains-head_of, head_of}
+use Rattle.frontier.proofs.Members.{Contains-head_of, head_of}
 use Rattle.deltastep.proofs.Queues.{get-insert_same, get-insert_other, get-outside_some, value_in_bucket}
 use Rattle.deltastep.proofs.Lowering.{value_or-some}
 use Rattle.deltastep.proofs.Relaxing.{IsAsked-of_requests}

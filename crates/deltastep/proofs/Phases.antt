@@ -11,11 +11,11 @@ use Rattle.relax.specs.Requests.{requests_of}
 use Rattle.relax.specs.Values.{value_or}
 use Rattle.deltastep.specs.Search.{top_of, AreReached, IsSearch, IsRelaxedBut, IsRelaxed, IsInBucket, AreInBucket, MeetsRequests, HasQueued, EndsPhase, EmptiesBucket, FitsFrom, ring_buckets, IsBucketEmpty, requests_by, weight}
 use Rattle.snapshot.specs.declared.legs.Part.{Part}
-use Rattle.deltastep.specs.Remembered.{remember_all}
-use Rattle.deltastep.proofs.Flags.{remember_all-of}
+use Rattle.frontier.specs.Remembered.{remember_all}
+use Rattle.frontier.proofs.Flags.{remember_all-of}
 use Rattle.std.proofs.lemmas.Bool.{cases_eq}
 use Rattle.snapshot.specs.declared.legs.Part.TheVariants.{Light, Heavy}
-use Rattle.deltastep.proofs.Members.{Contains-nil}
+use Rattle.frontier.proofs.Members.{Contains-nil}
 use Rattle.deltastep.proofs.Queues.{len-taken, get-insert_same, get-insert_other}
 use Rattle.deltastep.proofs.Relaxing.{IsRelaxedBut-kept, IsRelaxedBut-met, IsRelaxedBut-taken, AreInBucket-taken, IsSearch-taken, bucket_is, IsBucketEmpty-heavy}
 

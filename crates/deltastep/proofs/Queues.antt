@@ -5,7 +5,7 @@ use Rattle.std.specs.Cmp.{nat_cmp_total, unsigned_tied, eq_by_cmp_equiv}
 use Rattle.std.proofs.lemmas.Bool.{cases_eq}
 use Rattle.std.proofs.lemmas.Map.Views.{Contains-from_any, list_any-from_Contains}
 use Rattle.std.specs.Ordering.{eq_by_cmp}
-use Rattle.deltastep.proofs.Members.{Contains-head, Contains-tail, Contains-nil}
+use Rattle.frontier.proofs.Members.{Contains-head, Contains-tail, Contains-nil}
 use Rattle.buckets.specs.Queue.{Entries, bucket, outside, is_in_bucket}
 use Rattle.frontier.specs.Frontier.{TakesAny}
 

@@ -15,7 +15,7 @@ use Rattle.snapshot.specs.declared.legs.Leg.{Leg}
 use Rattle.snapshot.specs.declared.legs.Part.{Part}
 use Rattle.snapshot.specs.declared.legs.Part.TheVariants.{Heavy}
 use Rattle.deltastep.proofs.Division.{div-le_div, add-in_window, next_bucket}
-use Rattle.deltastep.proofs.Members.{Contains-head, Contains-tail, Contains-nil, Contains-map, Contains-of_map, head_of, Contains-head_of}
+use Rattle.frontier.proofs.Members.{Contains-head, Contains-tail, Contains-nil, Contains-map, Contains-of_map, head_of, Contains-head_of}
 use Rattle.deltastep.proofs.Queues.{stays_or_taken, value_in_bucket, get-outside_some, not_in_outside}
 use Rattle.deltastep.proofs.Lowering.{value_or-le, value_or-some}
 

@@ -12,7 +12,7 @@ use Rattle.snapshot.specs.declared.legs.Part.{Part}
 use Rattle.deltastep.specs.Search.{IsSearch, Trip, trip_length, Reaches, AreReached, top_of}
 use Rattle.deltastep.specs.Repair.{AreChanged, HasLeg, IsLost, IsKeptOf, AreGoneLost, IsSpread, IsClosedBut, IsThinner, Thins}
 use Rattle.deltastep.proofs.Finishing.{distance_at-value_at, walk_of_trip, trip_of_walk, trip_length-cons, ShortTrip, ShortTrip-of, ShortTrip-below_top}
-use Rattle.deltastep.proofs.Members.{Contains-nil}
+use Rattle.frontier.proofs.Members.{Contains-nil}
 use Rattle.deltastep.proofs.Thinning.{AreGoneLost-on, no_distance}
 use Rattle.std.specs.FinMap.{empty, get-empty}
 use Rattle.std.specs.Ordering.{nat_cmp}

@@ -11,7 +11,7 @@ use Rattle.snapshot.specs.declared.legs.Part.TheVariants.{Light, Heavy}
 use Rattle.buckets.specs.Queue.{Entries}
 use Rattle.deltastep.specs.Search.{AreReached, IsSearch, IsRelaxed, IsRelaxedBut, IsBetweenBuckets, top_of}
 use Rattle.deltastep.specs.Repair.{AreChanged, AreQueued}
-use Rattle.deltastep.proofs.Members.{Contains-nil}
+use Rattle.frontier.proofs.Members.{Contains-nil}
 use Rattle.deltastep.proofs.Queues.{get-insert_same, get-insert_other}
 
 pub top_small : (groups : Groups) → IsGrouped groups → top_of groups ≤ 72057594037927936

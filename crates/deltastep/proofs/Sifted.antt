@@ -9,7 +9,7 @@ use Rattle.relax.specs.Values.{value_at, value_or}
 use Rattle.buckets.specs.Queue.{Entries}
 use Rattle.deltastep.specs.Search.{MeetsRequests, TookRequest}
 use Rattle.deltastep.specs.Sifting.{lowers, sifted}
-use Rattle.deltastep.proofs.Members.{Contains-head, Contains-tail, Contains-nil}
+use Rattle.frontier.proofs.Members.{Contains-head, Contains-tail, Contains-nil}
 
 -- what a filter keeps was there, and it keeps what passes
 Contains-of_filter : {X : Type 0} (p : X → Bool) (xs : List X) (x : X) → Contains (filter p xs) x → Contains xs x

@@ -26,7 +26,7 @@ use Rattle.deltastep.specs.declared.known.NodeDistance.{NodeDistance}
 use Rattle.deltastep.proofs.Ending.{Least-once, value_below}
 use Rattle.deltastep.proofs.Finishing.{Contains-filter, Contains-of_filter}
 use Rattle.deltastep.proofs.Lowering.{value_or-some}
-use Rattle.deltastep.proofs.Members.{Contains-head, Contains-map, Contains-nil, Contains-of_map, Contains-tail}
+use Rattle.frontier.proofs.Members.{Contains-head, Contains-map, Contains-nil, Contains-of_map, Contains-tail}
 
 -- ---- nodes that have values
 

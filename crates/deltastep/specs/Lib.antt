@@ -1,6 +1,5 @@
 pub mod Guided
 pub mod Reach
-pub mod Remembered
 pub mod Repair
 pub mod Search
 pub mod Sifting

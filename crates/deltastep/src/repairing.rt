@@ -14,13 +14,12 @@ ghost use Rattle.deltastep.specs.Repair.{AreTails, AreQueued, AreChanged, HasLeg
 
 use crate::distances::{Distances, RowError};
 use crate::near::queue_near;
-use crate::remembered::Remembered;
 use crate::search::Search;
 use crate::stepping::{ring_size, row_in};
 use crate::untouched::untouched_row;
 use crate::workspace::Workspace;
 use buckets::{BucketQueue, OrderedBuckets};
-use frontier::Queued;
+use frontier::{Queued, Remembered};
 use relax::{Team, Tentative};
 use snapshot::{Leg, Part, Snapshot};
 use std::alloc::Global;

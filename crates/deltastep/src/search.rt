@@ -12,9 +12,8 @@ ghost use Rattle.deltastep.specs.Search.{AreLiveFrom, IsBetweenBuckets, EndsPhas
 ghost use Rattle.deltastep.specs.Stepping.{IsUnderWay, IsEmptyAt, IsQueuedAt, OwesOnly, HasWidth, HasRoomFrom, IsBetween, StaysBetween, StaysReached, KeepsInBucket, WeighsNoMore, WeighsLess, KeepsEmpty, KeepsQueued, StaysLive, Meets, MeetsOneMore, QueuesWhere, TakesBucket, TellsWindow, IsBehind, IsOver};
 
 use crate::distances::RowError;
-use crate::remembered::Remembered;
 use crate::sifting::sift;
-use frontier::Frontier;
+use frontier::{Frontier, Remembered};
 use relax::Team;
 use roadnet::LONGEST_ARC;
 use snapshot::{Leg, Part, Snapshot};

@@ -6,11 +6,10 @@ ghost use Rattle.deltastep.specs.Search.{IsBetweenBuckets, Suits, ring_buckets, 
 ghost use Rattle.std.specs.FinMap as map;
 
 use crate::distances::{Distances, RowError};
-use crate::remembered::Remembered;
 use crate::search::Search;
 use crate::workspace::Workspace;
 use buckets::{BucketQueue, OrderedBuckets};
-use frontier::{Frontier, LazyRing, Queued};
+use frontier::{Frontier, LazyRing, Queued, Remembered};
 use relax::{Team, Tentative};
 use snapshot::Snapshot;
 use std::alloc::Global;

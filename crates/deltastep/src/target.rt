@@ -9,12 +9,11 @@ ghost use Rattle.deltastep.specs.Stepping.{HasWidth, IsBetween, StaysBetween};
 ghost use Rattle.deltastep.specs.Reach.{IsDistance};
 
 use crate::distances::RowError;
-use crate::remembered::Remembered;
 use crate::search::Search;
 use crate::stepping::ring_size;
 use crate::workspace::Workspace;
 use buckets::{BucketQueue, OrderedBuckets};
-use frontier::{Frontier, LazyRing, Queued};
+use frontier::{Frontier, LazyRing, Queued, Remembered};
 use relax::{Team, Tentative};
 use snapshot::Snapshot;
 use std::alloc::Global;

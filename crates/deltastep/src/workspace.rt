@@ -6,9 +6,8 @@ ghost use Rattle.frontier.specs.Entries.{IsFresh};
 ghost use Rattle.deltastep.specs.Search.{most_lists};
 
 use crate::distances::RowError;
-use crate::remembered::Remembered;
 use buckets::{BucketQueue, RingBuckets};
-use frontier::EntryRing;
+use frontier::{EntryRing, Remembered};
 use relax::Tentative;
 use std::alloc::Global;
 
@@ -111,7 +110,7 @@ impl Workspace {
                 return Ok(remembered);
             }
         }
-        Remembered::new(alloc, limit)
+        Ok(Remembered::new(alloc, limit)?)
     }
 
     /// Values for so many nodes, of which no node has one: those that were left, where they are as many, else new ones, which note the nodes

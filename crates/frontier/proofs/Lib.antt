@@ -1,3 +1,5 @@
 pub mod EntryLists
+pub mod Flags
 pub mod Live
+pub mod Members
 pub mod Taking

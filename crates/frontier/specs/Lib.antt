@@ -1,3 +1,4 @@
 pub mod Entries
 pub mod Frontier
 pub mod Live
+pub mod Remembered

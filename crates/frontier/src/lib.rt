@@ -6,8 +6,10 @@ mod frontier;
 mod lazy;
 mod lower;
 mod queued;
+mod remembered;
 
 pub use entries::EntryRing;
 pub use frontier::Frontier;
 pub use lazy::LazyRing;
 pub use queued::Queued;
+pub use remembered::Remembered;

@@ -9,8 +9,7 @@ use Rattle.machine.specs.declared.calls.Ticket.{Ticket}
 use Rattle.machine.specs.Machine.{Machine, batch}
 use Rattle.machine.specs.Calls.{failed, Submits, Flushes, StepsCheckpoint, has_nothing_unchecked, checkpoint_of, with_part, with_pages_written}
 use Rattle.machine.specs.Lives.{GoesOn, EndsCheckpoint, Checkpoints, pages_of_step}
-use Rattle.keeper.specs.Cutting.{HoldsFor}
-use Rattle.keeper.specs.Keeping.{LedgerState, Keeping, with_views, ledger_of, Holds, IsDurableIn, IsLeftByFlush}
+use Rattle.keeper.specs.Keeping.{LedgerState, Keeping, with_views, ledger_of, Holds, IsDurableIn, IsLeftByFlush, HoldsFor}
 
 module _ (shown : ℕ) (task : Option ℕ) where
   abbrev V : Machine → Machine

@@ -1,10 +1,12 @@
 -- The networks of the view and of the task stay those of the machine's versions.
-use Rattle.std.proofs.Common.{◌≡◌, ℕ, ◌≤◌, Option, Some, None, Result, Ok, Err, refl, sym, ◌∙◌, ap, subst, arith}
+use Rattle.std.proofs.Common.{◌≡◌, ℕ, ◌≤◌, Option, Some, None, Result, Ok, Err, refl, sym, ◌∙◌, ap, subst, arith, ◌-◌, take}
+use Rattle.std.proofs.lemmas.List.{take-take}
 use Rattle.std.specs.Prelude.{Bool, IfSome, IfOk, OnErr}
 use Rattle.std.specs.Bool.{Decides}
 use Rattle.roadnet.specs.declared.groups.Group.{Group}
 use Rattle.roadnet.specs.declared.refusals.Refusal.{Refusal}
 use Rattle.roadnet.specs.Net.{Net}
+use Rattle.roadnet.specs.Step.{after}
 use Rattle.machine.specs.declared.calls.Ticket.{Ticket}
 use Rattle.machine.specs.Laws.{IsLater}
 use Rattle.machine.specs.Machine.{Sizes, Machine, IsState, start, most_versions, network_at}
@@ -14,11 +16,20 @@ use Rattle.machine.specs.Runs.Happened.{Submitted, Flushed, Checkpointed}
 use Rattle.machine.proofs.Checkpoints.{IsBut, but_step, but_checkpoint, state_checkpoint}
 use Rattle.machine.proofs.Kept.{states_kept, with_task, published}
 use Rattle.machine.proofs.Keeping.{kept_start}
-use Rattle.machine.proofs.Later.{later_by_step}
+use Rattle.machine.proofs.Later.{later_by_step, still}
 use Rattle.keeper.specs.Keeping.{LedgerState, with_views, IsViewed}
 use Rattle.keeper.proofs.Leads.{one_net}
-use Rattle.keeper.proofs.LifeKept.{network_still}
 use Rattle.keeper.proofs.Lifted.{lift_submit, lift_flush, lift_step, lift_checkpoint}
+
+-- the network at a durable version stays
+pub network_still : (old new : Machine) (v : ℕ) → v ≤ old.durable → IsLater old new → network_at new v ≡ network_at old v
+network_still old new v le later =
+    let n = v - old.base_version in
+    let k = old.durable - old.base_version in
+    let fits : n ≤ k = omega arith in
+    ap (λ (b : ℕ). after new.base (take (v - b) new.accepted)) later.base_version
+    ∙ (ap (after new.base) (sym (take-take n k new.accepted fits) ∙ (ap (take n) (still old new later) ∙ take-take n k old.accepted fits))
+    ∙ ap (λ (b : Net). after b (take n old.accepted)) later.base)
 
 -- the network of a task stays that of its version in a state that comes later
 shared_later : (old new : Machine) (out : Option ℕ) (shared : Option Net) → IsLater old new → IfSome out (λ v. (old.shown ≤ v) × (v ≤ old.durable)) → IfSome shared (λ net. IfSome out (λ v. network_at old v ≡ Some net)) → IfSome shared (λ net. IfSome out (λ v. network_at new v ≡ Some net))

@@ -82,6 +82,10 @@ pub record Holds (content : List ℕ) (left : List ℕ → Type 0) (m : Machine)
   pub only : m.broken ≡ false → Only content left
   pub each_left : (c : List ℕ) → left c → IsDurableIn m c
 
+-- the disk keeps the disk model, and holds what is durable in this state
+abbrev pub HoldsFor : {D : Type 0} → Ghosts D → D → Machine → Type 0
+HoldsFor disk now m = disk.honest now × Holds (disk.content now) (disk.left now) m
+
 -- P of the network at the version that answers are given from
 abbrev pub OfShown : Machine → (Net → Type 0) → Type 0
 OfShown m P = (net : Net) → network_at m m.shown ≡ Some net → P net

@@ -1,9 +1,4 @@
 pub mod Accepting
-pub mod Cutting
-pub mod Failures
 pub mod Keeping
 pub mod Leading
-pub mod Living
 pub mod Parts
-pub mod Rehearsing
-pub mod Running

@@ -3,8 +3,7 @@ ghost use Rattle.std.specs.Prelude.{◌≡◌, ◌≤◌, ◌++◌, Some, None};
 ghost use Rattle.machine.specs.Machine.{IsState, groups_to, network_at, pending};
 ghost use Rattle.machine.specs.Calls.{IsTicketOf, receipt_for};
 ghost use Rattle.store.specs.State.{CameTidy};
-ghost use Rattle.keeper.specs.Cutting.{HoldsFor};
-ghost use Rattle.keeper.specs.Keeping.{Holds, with_views};
+ghost use Rattle.keeper.specs.Keeping.{Holds, HoldsFor, with_views};
 
 use crate::ledgers::Ledger;
 use disk::Disk;
@@ -20,7 +19,7 @@ impl<D: Disk> Ledger<D> {
     }
 
     /// Where its store came tidy, over a disk that keeps the disk model, the disk holds what is durable, whatever was called since.
-    pub(crate) fn holds_durable(&self)
+    pub fn holds_durable(&self)
         ensures { CameTidy D.honest D.content self.now.given → HoldsFor D.Disk self.now.disk self.now.machine }
     {
         let _ = &self.store;

@@ -20,7 +20,7 @@ use std::thread::Threads;
 use store::Store;
 
 /// A view of a copy of the network.
-pub(crate) fn view_of<R: Threads>(
+pub fn view_of<R: Threads>(
     rt: &R,
     alloc: Global,
     version: u64,

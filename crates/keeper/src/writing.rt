@@ -49,7 +49,7 @@ impl<D: Disk> Keeper<D> {
     }
 
     /// Accepts a copy of the group, as `submit_group` does, and answers its number.
-    pub(crate) fn submit_copy(&mut self, group: &Group) -> Result<u64, Refusal>
+    pub fn submit_copy(&mut self, group: &Group) -> Result<u64, Refusal>
         ensures step { Submits self.old.machine group.now (ticket_for group.now result) self.new.machine }
         ensures disk { self.new.disk ≡ self.old.disk }
         ensures given { self.new.given ≡ self.old.given }

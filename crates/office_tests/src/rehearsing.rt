@@ -2,7 +2,7 @@ ghost use Rattle.std.specs.Prelude.{◌≡◌, ◌≤◌, true, IfOk};
 ghost use Rattle.store.specs.State.{is_calm};
 
 use disk::{Disk, MemDisk, Pick};
-use keeper::{Rehearsal, rehearse};
+use lives::{Rehearsal, rehearse};
 use machine::{Answer, Event, Replied, Writing};
 use roadnet::{Command, Group, Refusal};
 use rows::{Query, Reply};

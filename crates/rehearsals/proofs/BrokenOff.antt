@@ -17,7 +17,7 @@ use Rattle.machine.specs.declared.events.Replied.{Replied}
 use Rattle.machine.specs.declared.events.Replied.TheVariants.{Refused}
 use Rattle.machine.specs.Machine.{start}
 use Rattle.machine.specs.Lives.{Turn, NoMemory}
-use Rattle.keeper.specs.Failures.{failures_by, failures_of_write, failures_of_stop, failures_after, failures_in, EndsAsTold}
+use Rattle.lives.specs.Failures.{failures_by, failures_of_write, failures_of_stop, failures_after, failures_in, EndsAsTold}
 use Rattle.printing.specs.Failing.{CountsWrites, IfDevice}
 use Rattle.printing.specs.Replied.{printed_replies}
 use Rattle.printing.specs.declared.failed.Failed.{Failed}

@@ -2,7 +2,7 @@ use Rattle.std.proofs.Common.{◌≡◌, ℕ, List, refl, sym, ◌∙◌, ap, su
 use Rattle.std.proofs.lemmas.Result.{err_from_is_err_and}
 use Rattle.store.specs.Committing.{HasTidyStanding}
 use Rattle.store.specs.State.{CameTidy, Told}
-use Rattle.keeper.proofs.Stopped.{IsOpened, is_opened}
+use Rattle.keeper.proofs.Opened.{IsOpened, is_opened}
 use Rattle.storetexts.proofs.Beginning.{none_come}
 use Rattle.storetexts.proofs.Fitting.{fits}
 use Rattle.storetexts.proofs.applying.ledger_on.Goals as goal

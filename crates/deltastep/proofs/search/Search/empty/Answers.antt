@@ -1,9 +1,9 @@
 use Rattle.std.proofs.Common.{◌≡◌, ℕ, ◌<◌, List, ◌++◌, sym, subst, ap, ◌∙◌, arith, All, le_trans}
 use Rattle.deltastep.specs.Search.{AreInBucket, IsRelaxedBut}
 use Rattle.snapshot.specs.declared.legs.Part.TheVariants.{Heavy}
-use Rattle.deltastep.specs.Remembered.{remember_all}
+use Rattle.frontier.specs.Remembered.{remember_all}
 use Rattle.deltastep.proofs.Relaxing.{nodes_in_range}
-use Rattle.deltastep.proofs.Flags.{remember_all-both}
+use Rattle.frontier.proofs.Flags.{remember_all-both}
 use Rattle.deltastep.proofs.Phases.{IsRelaxedBut-more, AreInBucket-remembered}
 use Rattle.deltastep.proofs.search.Search.empty.Goals as goal
 

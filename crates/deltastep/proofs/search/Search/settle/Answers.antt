@@ -4,7 +4,7 @@ use Rattle.relax.specs.Requests.{requests_of}
 use Rattle.deltastep.specs.Search.{MeetsRequests, top_of}
 use Rattle.snapshot.specs.Groups.{legs_of}
 use Rattle.snapshot.specs.declared.legs.Part.TheVariants.{Light, Heavy}
-use Rattle.deltastep.proofs.Flags.{memory_is}
+use Rattle.frontier.proofs.Flags.{memory_is}
 use Rattle.deltastep.proofs.Phases.{on_true, EmptiesBucket-relaxed, EmptiesBucket-taken}
 use Rattle.deltastep.proofs.search.Search.settle.Goals as goal
 

@@ -1,0 +1,104 @@
+use roadnet::OutOfMemory;
+use std::alloc::Global;
+use std::marker::Model;
+
+/// Nodes, each once, in the order in which they were first added. It takes 1 byte for each number below its limit and 4 a node.
+#[derive(Drop)]
+pub struct Remembered {
+    flags: Vec<bool>,
+    nodes: Vec<u32>,
+}
+
+impl Model for Remembered {
+    ghost use Rattle.std.specs.Prelude.{length};
+    ghost use Rattle.frontier.specs.Remembered.{Memory, AreFlags};
+
+    ghost Value = { Memory };
+
+    ghost view = { λ r. record { limit = length r.flags.items; nodes = r.nodes.items } };
+
+    ghost invariant = { λ r. AreFlags r.flags.items r.nodes.items };
+}
+
+impl Remembered {
+    ghost use Rattle.std.specs.Prelude.{◌≡◌, ◌<◌, ◌==◌, ◌↔◌, [], IsTrue, OnOk, IfOk, All, MatchBool, length};
+    ghost use Rattle.std.specs.List.{IsDistinct};
+    ghost use Rattle.frontier.specs.Remembered.{remember, remember_all};
+
+    /// No node, of the numbers below the limit.
+    pub fn new(alloc: Global, limit: usize) -> Result<Remembered, OutOfMemory>
+        ensures none { IfOk result (λ remembered. remembered ≡ record { limit = limit; nodes = [] }) }
+    {
+        Ok(Remembered {
+            flags: vec![in alloc; false; limit]?,
+            nodes: Vec::new(alloc),
+        })
+    }
+
+    /// Whether it has no node and this limit.
+    pub fn is_fresh(&self, limit: usize) -> bool
+        ensures { IsTrue result ↔ (self.now ≡ record { limit = limit; nodes = [] }) }
+    {
+        self.nodes.is_empty() && self.flags.len() == limit
+    }
+
+    /// The nodes in the order in which they were first added.
+    pub fn nodes(&self) -> &[u32]
+        ensures value { result.now ≡ self.now.nodes }
+        ensures once { IsDistinct (λ a b. a == b) self.now.nodes }
+    {
+        &self.nodes
+    }
+
+    /// Adds a node, if it is not there.
+    #[inline(always)]
+    pub fn add(&mut self, node: u32) -> Result<(), OutOfMemory>
+        requires within { node < self.old.limit }
+        ensures added { OnOk result (self.new.nodes ≡ remember self.old.nodes node) }
+        ensures limit { self.new.limit ≡ self.old.limit }
+    {
+        if self.flags[node as usize] {
+            return Ok(());
+        }
+        let Ok(()) = self.nodes.push(node) else {
+            return Err(OutOfMemory);
+        };
+        self.flags[node as usize] = true;
+        Ok(())
+    }
+
+    /// Adds nodes in their order.
+    #[inline(always)]
+    pub fn add_all(&mut self, nodes: &[u32]) -> Result<(), OutOfMemory>
+        requires within { All (λ u. u < self.old.limit) nodes.now }
+        ensures added { OnOk result (self.new.nodes ≡ remember_all self.old.nodes nodes.now) }
+        ensures limit { self.new.limit ≡ self.old.limit }
+    {
+        for &node in nodes {
+            self.add(node)?;
+        }
+        Ok(())
+    }
+
+    /// Forgets the node that was added last. Tells whether there was one.
+    #[inline(always)]
+    fn forget_last(&mut self) -> bool
+        ensures fewer { MatchBool result (length self.new.nodes < length self.old.nodes) (self.new.nodes ≡ []) }
+        ensures limit { self.new.limit ≡ self.old.limit }
+    {
+        let Some(node) = self.nodes.pop() else {
+            return false;
+        };
+        self.flags[node as usize] = false;
+        true
+    }
+
+    /// Forgets all nodes, in time for those that are there.
+    #[inline(always)]
+    pub fn clear(&mut self)
+        ensures none { self.new.nodes ≡ [] }
+        ensures limit { self.new.limit ≡ self.old.limit }
+    {
+        'nodes: while self.forget_last() {}
+    }
+}

@@ -1,0 +1,5 @@
+pub mod Cutting
+pub mod Failures
+pub mod Living
+pub mod Rehearsing
+pub mod Running

@@ -1,4 +1,4 @@
-//! Queues that keep nodes in buckets by value, and give out the least bucket whole.
+//! Queues that keep nodes in buckets by value. They return the least bucket as a whole.
 #![tactic(auto)]
 
 mod nodes;

@@ -9,8 +9,8 @@ ghost use Rattle.buckets.specs.Tables.{entries_of, without};
 use std::alloc::{AllocError, Global};
 use std::marker::Model;
 
-/// A map from nodes to values, in two tables. They go up to the greatest node that it ever had at least, and to at most twice that, since
-/// they grow by doubling: 9 bytes for each place.
+/// A map from nodes to values, in two tables. They reach at least up to the greatest node that the map ever had, and at most to twice that, since they grow
+/// by doubling. They take 9 bytes for each place.
 #[derive(Drop)]
 pub struct NodeValues {
     values: Vec<u64>,
@@ -44,8 +44,8 @@ pub fn is_in_bucket(value: Option<u64>, delta: u32, bucket: u64) -> bool
     }
 }
 
-/// Makes room in both tables for this many nodes, and for twice as many as there are places. After want of memory they may have grown, and
-/// stand for the same map.
+/// Makes room in both tables for this many nodes, and for twice as many as there are places. If memory runs out, the tables may have grown, but they are
+/// still the same map.
 fn grow(values: &mut Vec<u64>, queued: &mut Vec<bool>, nodes: usize) -> Result<(), AllocError>
     requires { length queued.old.items ≤ length values.old.items }
     ensures room { OnOk result (nodes ≤ length queued.new.items) }
@@ -58,7 +58,7 @@ fn grow(values: &mut Vec<u64>, queued: &mut Vec<bool>, nodes: usize) -> Result<(
     Ok(())
 }
 
-/// Makes room in both tables for this many nodes, where it is not there. After want of memory they stand for the same map.
+/// Makes room in both tables for this many nodes, if there is not enough. If memory runs out, they are still the same map.
 #[inline(always)]
 fn make_room(values: &mut Vec<u64>, queued: &mut Vec<bool>, nodes: usize) -> Result<(), AllocError>
     requires { length queued.old.items ≤ length values.old.items }
@@ -82,7 +82,7 @@ fn is_queued(queued: &[bool], place: usize) -> bool
 }
 
 impl NodeValues {
-    /// The map of no node. It takes no memory.
+    /// The empty map. It takes no memory.
     pub fn new(alloc: Global) -> NodeValues
         ensures { result ≡ map.empty }
     {
@@ -100,7 +100,7 @@ impl NodeValues {
         self.count == 0
     }
 
-    /// Whether one node alone has a value, in O(1).
+    /// Whether exactly one node has a value, in O(1).
     #[inline(always)]
     pub fn is_single(&self) -> bool
         ensures { IsTrue result ↔ (map.len self.now ≡ 1) }
@@ -121,8 +121,8 @@ impl NodeValues {
         }
     }
 
-    /// Gives the node this value, in place of the one that it may have. It takes O(1), and O(n) where a table grows, which doubles.
-    /// After want of memory the map is as it was.
+    /// Sets the value of the node, and replaces an earlier one. It takes O(1), or O(n) if a table grows, which doubles it. If memory runs out, the map is
+    /// as it was.
     #[inline(always)]
     pub fn set(&mut self, node: u32, value: u64) -> Result<(), AllocError>
         ensures ok { OnOk result (self.new ≡ map.insert self.old node value) }
@@ -139,8 +139,7 @@ impl NodeValues {
         Ok(())
     }
 
-    /// Gives a node that has no value this one. It takes O(1), and O(n) where a table grows, which doubles. After want of memory the map is
-    /// as it was.
+    /// Sets the value of a node that has none. It takes O(1), or O(n) if a table grows, which doubles it. If memory runs out, the map is as it was.
     #[inline(always)]
     pub fn add(&mut self, node: u32, value: u64) -> Result<(), AllocError>
         requires { map.get self.old node ≡ None }
@@ -155,7 +154,7 @@ impl NodeValues {
         Ok(())
     }
 
-    /// Gives a node that has a value this one, in O(1).
+    /// Changes the value of a node that has one, in O(1).
     #[inline(always)]
     pub fn change(&mut self, node: u32, value: u64)
         requires { IsSome (map.get self.old node) }
@@ -164,7 +163,7 @@ impl NodeValues {
         self.values[node as usize] = value;
     }
 
-    /// Takes the value of the node away, if it has one, in O(1).
+    /// Removes the value of the node, if it has one, in O(1).
     #[inline(always)]
     pub fn remove(&mut self, node: u32)
         ensures { self.new ≡ map.remove self.old node }
@@ -176,7 +175,7 @@ impl NodeValues {
         }
     }
 
-    /// Takes the values of these nodes away, in O(1) each.
+    /// Removes the values of these nodes, in O(1) each.
     pub fn remove_all(&mut self, nodes: &[u32])
         ensures { self.new ≡ without nodes.now self.old }
     {
@@ -185,8 +184,8 @@ impl NodeValues {
         }
     }
 
-    /// Keeps of these nodes, among which are all those of this bucket, just those of this bucket, ascending and each once. It takes
-    /// O(k log k) for k nodes, and no memory.
+    /// Of these nodes, among which are all those of this bucket, keeps only those of this bucket, ascending and each once. It takes O(k log k) for k nodes,
+    /// and no memory.
     pub fn keep_bucket(&self, delta: u32, number: u64, nodes: &mut Vec<u32>)
         requires positive { 1 ≤ delta }
         requires all { (node value : ℕ) → map.get self.now node ≡ Some value → value / delta ≡ number → has_node nodes.old.items node ≡ true }

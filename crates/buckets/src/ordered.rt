@@ -9,9 +9,9 @@ use std::collections::BTreeMap;
 
 /// A bucket queue without a window: every value fits.
 ///
-/// It keeps the value of each node in a table, and a list of nodes for each bucket in a search tree. A node that moves to another bucket
-/// stays in the list of the old one too; it is dropped when that bucket is taken. The tables take 9 bytes a node, up to twice the greatest
-/// node that was ever put, and the lists 4 bytes for each put that brought a node into a bucket, until that bucket is taken.
+/// It keeps the value of each node in a table, and a list of nodes for each bucket in a search tree. A node that moves to another bucket also stays in the
+/// list of the old one; it is dropped from there when that bucket is taken. The tables take 9 bytes a node, up to twice the greatest node that was ever
+/// put. The lists take 4 bytes for each put that brought a node into a bucket, until that bucket is taken.
 #[derive(Drop)]
 pub struct OrderedBuckets {
     alloc: Global,
@@ -39,8 +39,8 @@ impl OrderedBuckets {
         }
     }
 
-    /// Sees to it that the node is in the list of the bucket: where its value is in that bucket, it is. After want of memory each list
-    /// has what it had.
+    /// Makes sure that the node is in the list of the bucket. If its value is in that bucket, it is there already. If memory runs out, each list has what
+    /// it had.
     fn list(&mut self, node: u32, bucket: u64) -> Result<(), AllocError>
         ensures ok { OnOk result (is_listed self.new.lists bucket node ≡ true) }
         ensures kept { (b n : ℕ) → is_listed self.old.lists b n ≡ true → is_listed self.new.lists b n ≡ true }
@@ -54,7 +54,7 @@ impl OrderedBuckets {
     }
 }
 
-/// Puts the node into the list of the bucket, in O(log b) for b buckets. After want of memory each list has what it had.
+/// Puts the node into the list of the bucket, in O(log b) for b buckets. If memory runs out, each list has what it had.
 fn enlist(
     lists: &mut BTreeMap<u64, Vec<u32>>,
     alloc: Global,
@@ -103,7 +103,7 @@ impl BucketQueue for OrderedBuckets {
         true
     }
 
-    /// Queues a node with this value, in O(log b) amortized for b buckets: a table that is too small for the node doubles.
+    /// Queues a node with this value, in amortized O(log b) for b buckets: a table that is too small for the node doubles.
     fn put(&mut self, node: u32, value: u64) -> Result<(), AllocError> {
         let bucket = value / u64::from(self.delta);
         self.list(node, bucket)?;
@@ -119,8 +119,8 @@ impl BucketQueue for OrderedBuckets {
         }
     }
 
-    /// Takes out the nodes of the least bucket, in O(log b + k log k) for b buckets and a list of k nodes; lists of which no node is left
-    /// are dropped on the way, each node of them in O(1). It takes no memory, so there is no error.
+    /// Takes out the nodes of the least bucket, in O(log b + k log k) for b buckets and a list of k nodes. Lists without nodes are dropped on the way, in
+    /// O(1) for each node that was in them. It takes no memory, so there is no error.
     fn take_least_into(&mut self, nodes: &mut Vec<u32>) -> Result<Option<u64>, AllocError> {
         nodes.clear();
         while let Some((bucket, mut list)) = self.lists.pop_first() {

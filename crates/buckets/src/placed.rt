@@ -1,4 +1,4 @@
-//! Lists of nodes, of which each node stands in at most one, at a place that is kept.
+//! Lists of nodes. Each node is in at most one list, and its place there is kept.
 
 ghost use Rattle.std.specs.Prelude.{◌≡◌, ◌≢◌, ℕ, ◌+◌, ◌<◌, ◌≤◌, ◌^◌, ◌%◌, ◌++◌, ◌∷◌, [], set, Option, None, Some, IsTrue, ◌↔◌, OnOk, OnErr, IfOk, length, slice_index};
 ghost use Rattle.std.specs.List.{slice_get, swap_remove};
@@ -9,10 +9,10 @@ use crate::places::Places;
 use std::alloc::{AllocError, Global};
 use std::mem::replace;
 
-/// A list of at most so many places keeps them when it is taken.
+/// A list with at most this many places keeps them when its nodes are taken.
 const FEW_PLACES: usize = 8;
 
-/// As many empty lists.
+/// This many empty lists.
 fn empty_lists(alloc: Global, size: u32) -> Result<Vec<Vec<u32>>, AllocError>
     ensures len { IfOk result (λ lists. length lists.items ≡ size) }
     ensures empty { IfOk result (λ lists. (p : ℕ) → nodes_of lists.items p ≡ []) }
@@ -32,7 +32,7 @@ fn has_nodes(lists: &Vec<Vec<u32>>, list: usize) -> bool
     !lists[list].is_empty()
 }
 
-/// Adds the node at the end of the list, and gives its place there. After want of memory each list is as it was.
+/// Adds the node at the end of the list, and returns its place there. If memory runs out, each list is as it was.
 #[inline(always)]
 fn push(lists: &mut Vec<Vec<u32>>, list: usize, node: u32) -> Result<u32, AllocError>
     requires { list < length lists.old.items }
@@ -50,7 +50,7 @@ fn push(lists: &mut Vec<Vec<u32>>, list: usize, node: u32) -> Result<u32, AllocE
     Ok(place as u32)
 }
 
-/// Takes the node at this place out of the list; the last node of the list then stands there.
+/// Takes the node at this place out of the list. The last node of the list takes its place.
 #[inline(always)]
 fn take_out(lists: &mut Vec<Vec<u32>>, places: &mut Vec<u32>, list: usize, place: u32)
     requires list { list < length lists.old.items }
@@ -67,7 +67,7 @@ fn take_out(lists: &mut Vec<Vec<u32>>, places: &mut Vec<u32>, list: usize, place
     lists[list].swap_remove(place as usize);
 }
 
-/// Gives the table a place for the node, and twice as many as it has. After want of memory it is as it was.
+/// Gives the table a place for the node, and at least twice as many places as it has. If memory runs out, the table is as it was.
 fn grow(places: &mut Vec<u32>, node: u32) -> Result<(), AllocError>
     requires { length places.old.items ≤ node }
     ensures room { OnOk result (node < length places.new.items) }
@@ -79,7 +79,7 @@ fn grow(places: &mut Vec<u32>, node: u32) -> Result<(), AllocError>
     Ok(())
 }
 
-/// Sees to it that the node has a place in the table, in O(1) amortized. After want of memory the table is as it was.
+/// Makes sure that the node has a place in the table, in amortized O(1). If memory runs out, the table is as it was.
 #[inline(always)]
 fn make_room(places: &mut Vec<u32>, node: u32) -> Result<(), AllocError>
     ensures room { OnOk result (node < length places.new.items) }
@@ -92,7 +92,7 @@ fn make_room(places: &mut Vec<u32>, node: u32) -> Result<(), AllocError>
     Ok(())
 }
 
-/// Adds a node that stands in no list at the end of this one. After want of memory each list and each place is as it was.
+/// Adds a node that is in no list at the end of this one. If memory runs out, each list and each place is as it was.
 #[inline(always)]
 fn enlist(
     lists: &mut Vec<Vec<u32>>,
@@ -114,7 +114,7 @@ fn enlist(
     Ok(())
 }
 
-/// Moves a node from the list in which it stands to the end of another. After want of memory each list and each place is as it was.
+/// Moves a node from its list to the end of another. If memory runs out, each list and each place is as it was.
 #[inline(always)]
 fn relist(
     lists: &mut Vec<Vec<u32>>,
@@ -140,7 +140,7 @@ fn relist(
     Ok(())
 }
 
-/// Adds nodes at the end of a list; one alone is put there without a call that copies memory.
+/// Adds nodes at the end of a list. A single node is added without a call that copies memory.
 #[inline(always)]
 fn append(nodes: &mut Vec<u32>, more: &[u32]) -> Result<(), AllocError>
     ensures { OnOk result (nodes.new.items ≡ nodes.old.items ++ more.now) }
@@ -153,8 +153,8 @@ fn append(nodes: &mut Vec<u32>, more: &[u32]) -> Result<(), AllocError>
     Ok(())
 }
 
-/// Takes all nodes of the list, into one that is empty: a list of few places keeps them, and its nodes are copied. After want of memory
-/// each list is as it was.
+/// Takes all nodes of the list, and puts them into an empty one. A list of few places keeps these, and its nodes are copied. If memory runs out, each list
+/// is as it was.
 #[inline(always)]
 fn take_list(
     lists: &mut Vec<Vec<u32>>,
@@ -179,9 +179,9 @@ fn take_list(
     Ok(())
 }
 
-/// Lists of nodes, of which each node stands in at most one. The place of a node in its list is kept, so that it moves to another list in
-/// O(1), and the lists that have nodes are marked in a set of bits. It takes 24 bytes a list, 4 for each place of its table, of which there
-/// are at most twice as many as the greatest node that was ever added, and 4 for each place of a list that was ever in use at once.
+/// Lists of nodes, where each node is in at most one. The place of a node in its list is kept, so that it moves to another list in O(1). The lists that
+/// have nodes are marked in a set of bits. It takes 24 bytes a list; 4 bytes for each place of its table, which has at most twice as many places as the
+/// greatest node that was ever added; and 4 bytes for each place of a list that was ever in use at once.
 #[derive(Drop)]
 pub struct PlacedLists {
     pub(crate) alloc: Global,
@@ -192,7 +192,7 @@ pub struct PlacedLists {
 }
 
 impl PlacedLists {
-    /// As many empty lists. The error is that no memory was given.
+    /// This many empty lists. The only error is lack of memory.
     pub fn new(alloc: Global, size: u32) -> Result<PlacedLists, AllocError>
         ensures len { IfOk result (λ made. length made.lists.items ≡ size) }
         ensures empty { IfOk result (λ made. (p : ℕ) → nodes_of made.lists.items p ≡ []) }
@@ -213,7 +213,7 @@ impl PlacedLists {
         self.lists.len()
     }
 
-    /// Adds a node that stands in no list at the end of this one, in O(1) amortized. After want of memory each node stands where it stood.
+    /// Adds a node that is in no list at the end of this one, in amortized O(1). If memory runs out, each node is where it was.
     #[inline(always)]
     pub fn add(&mut self, list: usize, node: u32) -> Result<(), AllocError>
         requires { list < length self.old.lists.items }
@@ -226,8 +226,7 @@ impl PlacedLists {
         Ok(())
     }
 
-    /// Moves a node from the list in which it stands to the end of another, in O(1) amortized. After want of memory each node stands where
-    /// it stood.
+    /// Moves a node from its list to the end of another, in amortized O(1). If memory runs out, each node is where it was.
     #[inline(always)]
     pub fn move_to(&mut self, from: usize, to: usize, node: u32) -> Result<(), AllocError>
         requires apart { from ≢ to }
@@ -244,7 +243,7 @@ impl PlacedLists {
         Ok(())
     }
 
-    /// Takes all nodes of this list, into a list that is empty. After want of memory each node stands where it stood.
+    /// Takes all nodes of this list, and puts them into an empty list. If memory runs out, each node is where it was.
     #[inline(always)]
     pub fn take(&mut self, list: usize, nodes: &mut Vec<u32>) -> Result<(), AllocError>
         requires list { list < length self.old.lists.items }

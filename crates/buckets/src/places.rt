@@ -7,7 +7,7 @@ ghost use Rattle.buckets.specs.Places.{place_bit, IsNext};
 use std::alloc::{AllocError, Global};
 use std::marker::Model;
 
-/// The least bit of the word from the given one on that is 1, if there is one.
+/// The lowest bit of the word that is 1, from the given one on, if there is one.
 fn next_bit(word: u64, from: u32) -> Option<u32>
     requires { from < 64 }
     ensures none { MatchOption result ((i : ℕ) → from ≤ i → bit_at word i ≡ 0) (λ bit. (bit < 64) × (from ≤ bit) × (bit_at word bit ≡ 1)) }
@@ -40,7 +40,7 @@ fn next_in(words: &[u64], from: usize) -> Option<usize>
     None
 }
 
-/// Puts a number into the set.
+/// Adds a number to the set.
 fn set_bit(words: &mut Vec<u64>, place: usize)
     requires { place / 64 < length words.old.items }
     ensures member { place_bit words.new.items place ≡ 1 }
@@ -51,7 +51,7 @@ fn set_bit(words: &mut Vec<u64>, place: usize)
     words[place / 64] |= 1 << (place % 64);
 }
 
-/// Takes a number out of the set.
+/// Removes a number from the set.
 fn clear_bit(words: &mut Vec<u64>, place: usize)
     requires { place / 64 < length words.old.items }
     ensures member { place_bit words.new.items place ≡ 0 }
@@ -63,8 +63,8 @@ fn clear_bit(words: &mut Vec<u64>, place: usize)
     words[place / 64] &= !(1 << (place % 64));
 }
 
-/// A set of numbers below a limit, as bits in two levels: a bit a number, 64 of them a word, and a summary with a bit a word, which is 1
-/// where the word is not 0. It takes 1 bit a number and 1 for 64 numbers.
+/// A set of numbers below a limit, as bits in two levels: one bit for each number, 64 of them in a word, and a summary with one bit for each word, which is
+/// 1 if the word is not 0. It takes 1 bit a number, and 1 bit for 64 numbers.
 #[derive(Drop)]
 pub struct Places {
     words: Vec<u64>,
@@ -86,7 +86,7 @@ impl Places {
     ghost use Rattle.std.specs.Prelude.{◌≡◌, ◌≢◌, ℕ, ◌+◌, ◌*◌, ◌/◌, ◌≤◌, ◌<◌, ◌↔◌, IsTrue, IfOk, length};
     ghost use Rattle.buckets.specs.Places.{place_bit, IsNext};
 
-    /// The set of no number, for numbers below the limit. The error is that no memory was given.
+    /// The empty set, for numbers below the limit. The only error is lack of memory.
     pub fn new(alloc: Global, limit: u32) -> Result<Places, AllocError>
         ensures none { IfOk result (λ places. (k : ℕ) → place_bit places k ≡ 0) }
         ensures limit { IfOk result (λ places. limit ≤ 64 * length places) }
@@ -96,7 +96,7 @@ impl Places {
         Ok(Places { words, summary })
     }
 
-    /// Puts a number into the set, in O(1).
+    /// Adds a number to the set, in O(1).
     pub fn insert(&mut self, place: usize)
         requires { place < 64 * length self.old }
         ensures member { place_bit self.new place ≡ 1 }
@@ -107,7 +107,7 @@ impl Places {
         set_bit(&mut self.summary, place / 64);
     }
 
-    /// Takes a number out of the set, in O(1).
+    /// Removes a number from the set, in O(1).
     pub fn remove(&mut self, place: usize)
         requires { place < 64 * length self.old }
         ensures member { place_bit self.new place ≡ 0 }
@@ -120,7 +120,7 @@ impl Places {
         }
     }
 
-    /// Puts a number into the set, or takes it out, in O(1).
+    /// Adds a number to the set, or removes it, in O(1).
     pub fn set(&mut self, place: usize, member: bool)
         requires { place < 64 * length self.old }
         ensures member { (place_bit self.new place ≡ 1) ↔ IsTrue member }

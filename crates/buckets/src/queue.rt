@@ -4,9 +4,9 @@ ghost use Rattle.buckets.specs.Queue.{Entries, TakesLeast};
 
 use std::alloc::AllocError;
 
-/// A map from nodes to values, kept in buckets: bucket `b` has the nodes whose value has the quotient `b` by `delta`.
+/// A map from nodes to values, kept in buckets: bucket `b` has the nodes whose value divided by `delta` is `b`, rounded down.
 ///
-/// A member may have a window: then only the values of some buckets in a row fit.
+/// An implementation may have a window. Then only the values of some buckets in a row fit.
 pub trait BucketQueue {
     /// The value of each node that is queued.
     ghost entries: { Self → Entries };
@@ -25,7 +25,7 @@ pub trait BucketQueue {
         ensures value { result ≡ width self.now }
         ensures positive { 1 ≤ width self.now };
 
-    /// How many buckets in a row fit, counted from the last bucket taken, or from bucket 0 before the first was taken.
+    /// How many buckets in a row fit, counted from the bucket taken last, or from bucket 0 before the first was taken.
     fn window(&self) -> u64
         ensures value { result ≡ span self.now };
 
@@ -33,12 +33,12 @@ pub trait BucketQueue {
     fn is_empty(&self) -> bool
         ensures empty { IsTrue result ↔ (entries self.now ≡ map.empty) };
 
-    /// Whether a node can be put with this value now.
+    /// Whether a node can be queued with this value now.
     fn fits(&self, value: u64) -> bool
         ensures fits { IsTrue result ↔ accepts self.now value };
 
-    /// Queues a node with this value, in place of the one that it may have. The error is that no memory was given; the nodes and values
-    /// are then as they were. What fits stays the same either way.
+    /// Queues a node with this value, and replaces an earlier value. The only error is lack of memory; then the nodes and values are as they were. What
+    /// fits stays the same in both cases.
     fn put(&mut self, node: u32, value: u64) -> Result<(), AllocError>
         requires fits { accepts self.old value }
         ensures ok { OnOk result (entries self.new ≡ map.insert (entries self.old) node value) }
@@ -47,9 +47,9 @@ pub trait BucketQueue {
         ensures width { width self.new ≡ width self.old }
         ensures span { span self.new ≡ span self.old };
 
-    /// Takes out all nodes of the least bucket that is not empty, and gives its number and the nodes in ascending order; nothing where no
-    /// node is queued. From then on all values of as many buckets fit as the window says, from that one on. The error is that no memory was
-    /// given; the nodes, the values and what fits are then as they were.
+    /// Takes out all nodes of the least bucket that is not empty, and returns its number and the nodes in ascending order; nothing if no node is queued.
+    /// From then on the values of that bucket and those after it fit, as many buckets as the window has. The only error is lack of memory; then the nodes,
+    /// the values and what fits are as they were.
     fn take_least(&mut self) -> Result<Option<(u64, Vec<u32>)>, AllocError>
         ensures taken { IfOk result (λ taken. MatchOption taken (entries self.old ≡ map.empty) (λ t. TakesLeast (width self.old) (entries self.old) t.0 t.1.items (entries self.new))) }
         ensures window { IfOk result (λ taken. MatchOption taken ((v : ℕ) → accepts self.old v ↔ accepts self.new v) (λ t. (v : ℕ) → t.0 ≤ v / width self.old → v / width self.old < t.0 + span self.old → accepts self.new v)) }
@@ -59,9 +59,9 @@ pub trait BucketQueue {
         ensures width { width self.new ≡ width self.old }
         ensures span { span self.new ≡ span self.old };
 
-    /// Takes out all nodes of the least bucket that is not empty, as `take_least` does, into a list of the caller's, and gives the bucket's
-    /// number. What was in the list is gone; it is empty where no node is queued. So a caller that takes one bucket after another keeps one
-    /// list. After want of memory the list may be anything.
+    /// Takes out all nodes of the least bucket that is not empty, as `take_least` does, into a list of the caller's, and returns the bucket's number. The
+    /// earlier content of the list is lost; the list is empty if no node is queued. So a caller that takes one bucket after another keeps one list. If
+    /// memory runs out, the list may have any content.
     fn take_least_into(&mut self, nodes: &mut Vec<u32>) -> Result<Option<u64>, AllocError>
         ensures taken { IfOk result (λ taken. MatchOption taken (entries self.old ≡ map.empty) (λ bucket. TakesLeast (width self.old) (entries self.old) bucket nodes.new.items (entries self.new))) }
         ensures none { IfOk result (λ taken. MatchOption taken (nodes.new.items ≡ []) (λ _. Unit {0})) }

@@ -8,6 +8,7 @@ pub mod Guiding
 pub mod Live
 pub mod Lowering
 pub mod Looking
+pub mod Narrowing
 pub mod NoShorter
 pub mod Phases
 pub mod Queues

@@ -15,7 +15,8 @@
 use Rattle.std.specs.Prelude.{◌≡◌, ℕ, ◌+◌, ◌*◌, ◌-◌, ◌/◌, ◌<◌, ◌≤◌, ◌⊎◌, ◌≢◌, List, [], ◌∷◌, ◌++◌, length, map as list_map, sum_by, unwrap_or, IsSome, Contains, Option, Some, MatchOption}
 use Rattle.relax.specs.Values.{value_at, value_or}
 use Rattle.std.specs.FinMap as map
-use Rattle.snapshot.specs.Groups.{Groups, legs_of}
+use Rattle.roadnet.specs.Net.{Net}
+use Rattle.snapshot.specs.Groups.{Groups, IsGrouped, IsNarrowed, IsSnapshotOf, legs_of}
 use Rattle.buckets.specs.Queue.{Entries}
 use Rattle.snapshot.specs.declared.legs.Leg.{Leg}
 use Rattle.snapshot.specs.declared.legs.Part.{Part}
@@ -168,3 +169,10 @@ pub record IsBetweenBuckets (groups : Groups) (source : ℕ) (tentative : List (
 -- .. from each source from which the values are lengths of trips
 abbrev pub IsBetweenFromReached : Groups → List (Option ℕ) → Entries → Type 0
 IsBetweenFromReached groups tentative queue = (source : ℕ) → AreReached groups source tentative → IsBetweenBuckets groups source tentative queue
+
+-- a snapshot of the network, or one that is narrowed from such a one
+pub record IsNarrowedOf (net : Net) (groups : Groups) : Type 0 where
+  pub wide : Groups
+  pub grouped : IsGrouped wide
+  pub snapshot : IsSnapshotOf net wide
+  pub narrowed : IsNarrowed wide groups

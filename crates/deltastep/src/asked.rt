@@ -1,4 +1,4 @@
-//! Searches for what is asked of the nodes around a source, which end as soon as it can be answered.
+//! Searches that answer a question about the nodes around a source, and end as soon as they can.
 
 ghost use Rattle.std.specs.Prelude.{◌≡◌, ◌+◌, ◌-◌, ◌/◌, ◌≤◌, ℕ, List, Option, None, length, replicate, IfOk, IfSome, OnOk};
 ghost use Rattle.std.specs.Bool.{Decides};
@@ -6,13 +6,13 @@ ghost use Rattle.roadnet.specs.Net.{Net};
 ghost use Rattle.snapshot.specs.Groups.{IsSnapshotOf};
 ghost use Rattle.deltastep.specs.declared.known.NodeDistance.{NodeDistance};
 ghost use Rattle.deltastep.specs.Reach.{AreFinal, IsBeyond};
-ghost use Rattle.deltastep.specs.Search.{Suits};
+ghost use Rattle.deltastep.specs.Search.{IsNarrowedOf, Suits, most_lists};
 ghost use Rattle.deltastep.specs.Stepping.{HasWidth, IsBetween, StaysBetween};
 
 use crate::distances::RowError;
 use crate::known::NodeDistance;
 use crate::search::Search;
-use crate::stepping::ring_size;
+use crate::stepping::{narrower, ring_size};
 use crate::workspace::Workspace;
 use buckets::{BucketQueue, OrderedBuckets};
 use frontier::{Frontier, LazyRing, Queued};
@@ -20,23 +20,23 @@ use relax::{Team, Tentative};
 use snapshot::Snapshot;
 use std::alloc::Global;
 
-/// What is asked of the nodes around a source.
+/// A question about the nodes around a source.
 pub(crate) trait Asked {
-    /// It can be asked where values have so many places.
+    /// It can be asked of values that have so many places.
     ghost suits: { Self → ℕ → Type 0 };
 
-    /// Values that are final up to a length suffice for an answer.
+    /// Values that are final up to a length are enough for an answer.
     ghost suffices: { Self → List (Option ℕ) → ℕ → Type 0 };
 
     /// The right answers in a network, from a source.
     ghost answers: { Self → Net → ℕ → List NodeDistance → Type 0 };
 
-    /// Whether values that are final up to this length suffice.
+    /// Whether values that are final up to this length are enough.
     fn is_enough(&self, values: &Tentative, end: u64) -> bool
         requires suits { suits self.now (length values.now) }
         ensures { Decides result (suffices self.now values.now end) };
 
-    /// The answer out of values that are final up to this length, or where there is none, all of them. The one error is want of memory.
+    /// The answer, given values that are final up to this length, or all of them if there is none. The only error is lack of memory.
     fn answer(
         &self,
         alloc: Global,
@@ -48,7 +48,7 @@ pub(crate) trait Asked {
         ensures { IfOk result (λ told. (net : Net) (source : ℕ) → AreFinal net source end values.now → answers self.now net source told.items) };
 }
 
-/// The last number of a bucket, or the greatest there is where that is above it.
+/// The last value of a bucket, or the greatest number of the type if that is above it.
 #[inline(always)]
 fn last_of(bucket: u64, delta: u64) -> u64
     requires positive { 1 ≤ delta }
@@ -58,8 +58,8 @@ fn last_of(bucket: u64, delta: u64) -> u64
 }
 
 impl<F: Frontier> Search<F> {
-    /// Settles bucket after bucket until what is asked can be answered, or no node is queued any more. Gives up to which length the values
-    /// are final then: to the end of the bucket that was settled last, or where no node is queued, all of them.
+    /// Settles bucket after bucket until there are enough values for an answer, or no node is queued any more. Returns up to which length the values are
+    /// then final: to the end of the bucket that was settled last, or all of them if no node is queued.
     fn settle_for<A: Asked, T: Team>(
         &mut self,
         alloc: Global,
@@ -88,8 +88,7 @@ impl<F: Frontier> Search<F> {
     }
 }
 
-/// The answer to what is asked around `source` with the given team and a frontier of no value and no queued node, and the frontier as the search leaves
-/// it.
+/// The answer around `source`, found with the given team and a frontier without values and queued nodes. Also the frontier as the search leaves it.
 #[inline(always)]
 fn answer_by<F: Frontier + Drop, A: Asked, T: Team>(
     alloc: Global,
@@ -103,7 +102,7 @@ fn answer_by<F: Frontier + Drop, A: Asked, T: Team>(
     requires source { (1 ≤ source) × (source ≤ snapshot.now.nodes) }
     requires asked { A.suits asked.now (snapshot.now.nodes + 1) }
     requires suits { Suits snapshot.now (F.entries frontier) (F.accepts frontier) (F.width frontier) (F.span frontier) }
-    ensures told { IfOk result (λ found. (net : Net) → IsSnapshotOf net snapshot.now → A.answers asked.now net source found.0.items) }
+    ensures told { IfOk result (λ found. (net : Net) → IsNarrowedOf net snapshot.now → A.answers asked.now net source found.0.items) }
 {
     let mut search = Search::begin(snapshot, source, frontier)?;
     let end = search.settle_for(alloc, snapshot, asked, team)?;
@@ -112,7 +111,7 @@ fn answer_by<F: Frontier + Drop, A: Asked, T: Team>(
     Ok((told, frontier))
 }
 
-/// The answer to what is asked around `source` with the given team, values of no node and queue; the values are kept for the next search.
+/// The answer around `source`, found with the given team, empty values and an empty queue. The values are kept for the next search.
 fn answer_with<Q: BucketQueue + Drop, A: Asked, T: Team>(
     alloc: Global,
     snapshot: &Snapshot,
@@ -127,7 +126,7 @@ fn answer_with<Q: BucketQueue + Drop, A: Asked, T: Team>(
     requires source { (1 ≤ source) × (source ≤ snapshot.now.nodes) }
     requires asked { A.suits asked.now (snapshot.now.nodes + 1) }
     requires suits { Suits snapshot.now (Q.entries buckets) (Q.accepts buckets) (Q.width buckets) (Q.span buckets) }
-    ensures told { IfOk result (λ told. (net : Net) → IsSnapshotOf net snapshot.now → A.answers asked.now net source told.items) }
+    ensures told { IfOk result (λ told. (net : Net) → IsNarrowedOf net snapshot.now → A.answers asked.now net source told.items) }
 {
     let frontier = Queued {
         tentative: values,
@@ -142,7 +141,7 @@ fn answer_with<Q: BucketQueue + Drop, A: Asked, T: Team>(
     Ok(told)
 }
 
-/// The answer to what is asked around `source`, whatever the workspace holds: the search takes up its values and its queue.
+/// The answer around `source`, whatever the workspace holds: the search uses its values and its queue.
 pub(crate) fn answer_in<A: Asked, T: Team>(
     alloc: Global,
     snapshot: &Snapshot,
@@ -162,6 +161,30 @@ pub(crate) fn answer_in<A: Asked, T: Team>(
             alloc, snapshot, source, asked, team, values, buckets, workspace,
         );
     };
+    let narrow = snapshot.narrowed()?;
+    let inner = narrower(&narrow, snapshot);
+    answer_over(alloc, inner, source, asked, team, values, size, workspace)
+}
+
+/// The answer to what is asked around `source` in each network from whose snapshot this one is narrowed, with values of no node, over a ring of so
+/// many lists; the workspace gets what the search leaves.
+fn answer_over<A: Asked, T: Team>(
+    alloc: Global,
+    snapshot: &Snapshot,
+    source: u32,
+    asked: &A,
+    team: &T,
+    values: Tentative,
+    size: u32,
+    workspace: &mut Workspace,
+) -> Result<Vec<NodeDistance>, RowError>
+    requires blank { values ≡ replicate (snapshot.now.nodes + 1) None }
+    requires source { (1 ≤ source) × (source ≤ snapshot.now.nodes) }
+    requires asked { A.suits asked.now (snapshot.now.nodes + 1) }
+    requires some { 1 ≤ size }
+    requires few { size ≤ most_lists }
+    ensures told { IfOk result (λ told. (net : Net) → IsNarrowedOf net snapshot.now → A.answers asked.now net source told.items) }
+{
     let ring = workspace.take_ring(alloc, snapshot.delta(), size)?;
     let frontier = LazyRing::new(alloc, values, ring);
     let (told, over) = answer_by(alloc, snapshot, source, asked, team, frontier)?;

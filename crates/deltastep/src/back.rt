@@ -23,7 +23,7 @@ fn turn(arc: RoadArc) -> RoadArc
     }
 }
 
-/// The arcs the other way round, in their order.
+/// The arcs the other way round, in the same order.
 fn turn_all(alloc: Global, arcs: &[RoadArc]) -> Result<Vec<RoadArc>, RowError>
     ensures { IfOk result (λ all. all.items ≡ map turned arcs.now) }
 {
@@ -36,9 +36,9 @@ fn turn_all(alloc: Global, arcs: &[RoadArc]) -> Result<Vec<RoadArc>, RowError>
     Ok(all)
 }
 
-/// All arcs of a network, open or closed, grouped by their heads: for each leg of a network whose arcs have the same ends here, under their numbers, there
-/// is one back, from its head to its tail. So it serves this network and each one that it came from by commands, and those that come of it until an arc is
-/// laid, whatever the lengths, and whichever arcs are open. Its one error is want of memory, for 8 bytes an arc and 8 a node, and 16 an arc more on the way.
+/// All arcs of a network, open or closed, grouped by their heads. For each leg of a network whose arcs have the same ends under the same numbers, it has
+/// one back, from its head to its tail. So it serves this network, those from which it came by commands, and those that come from it until an arc is laid,
+/// whatever the lengths and whichever arcs are open. Its only error is lack of memory, for 8 bytes an arc and 8 a node, and temporarily 16 more an arc.
 pub fn back_of(alloc: Global, network: &Network) -> Result<Snapshot, RowError>
     ensures nodes { IfOk result (λ back. back.nodes ≡ network.now.nodes) }
     ensures tails { IfOk result (λ back. (net : Net) (groups : Groups) → IsGrouped groups → IsSnapshotOf net groups → KeepsEnds net network.now → AreTails back groups) }

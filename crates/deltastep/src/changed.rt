@@ -66,8 +66,8 @@ fn add_changed(
     Ok(())
 }
 
-/// The nodes of which some leg is not the same in both snapshots, of networks with the same nodes: each other node has the same legs in both. It goes
-/// over all legs once. The one error is want of memory, for 4 bytes a node that it gives, and twice that while the list grows.
+/// The nodes that do not have the same legs in both snapshots, which are of networks with the same nodes. It passes over all legs once. The only error is
+/// lack of memory, for 4 bytes a node that it returns, and twice that while the list grows.
 pub fn changed_nodes(
     alloc: Global,
     before: &Snapshot,

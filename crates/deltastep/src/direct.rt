@@ -15,7 +15,7 @@ use snapshot::{Part, Snapshot};
 use std::alloc::Global;
 
 impl<F: Frontier> Search<F> {
-    /// Relaxes all legs of a node, whose value is in the given bucket, and tells whether a node came into it.
+    /// Relaxes all legs of a node whose value is in the given bucket, and returns whether a node came into that bucket.
     #[inline(always)]
     fn relax_legs<T: Team>(
         &mut self,
@@ -43,7 +43,7 @@ impl<F: Frontier> Search<F> {
         Ok(came_back)
     }
 
-    /// Relaxes all legs of nodes that were taken from a bucket, of one after another, and tells whether a node came into it.
+    /// Relaxes all legs of the nodes that were taken from a bucket, one node after another, and returns whether a node came into that bucket.
     #[inline(always)]
     fn relax_taken<T: Team>(
         &mut self,
@@ -74,12 +74,12 @@ impl<F: Frontier> Search<F> {
         Ok(came_back)
     }
 
-    /// Takes the least bucket that is not empty and relaxes all legs of its nodes: gives its number and whether it is settled, so that all that
-    /// is queued is in later buckets, or nothing where no node is queued. Where it is not settled, nodes came back into it, and the next such
-    /// call takes them. The list is used for the nodes that are taken.
+    /// Takes the least bucket that is not empty and relaxes all legs of its nodes. Returns its number, and whether it is settled, so that all queued nodes
+    /// are in later buckets; or nothing if no node is queued. If it is not settled, nodes came back into it, and the next such call takes them. The list is
+    /// used for the nodes that are taken.
     ///
-    /// A node that comes back has its heavy legs relaxed once more, which delta-stepping puts off; but no request is written down, and no node
-    /// is remembered, so where buckets hold few nodes it takes less.
+    /// A node that comes back has its heavy legs relaxed once more; delta-stepping puts these off. But no request is written down, and no node is
+    /// remembered. So this is faster if buckets hold few nodes.
     #[inline(always)]
     pub(crate) fn relax_next<T: Team>(
         &mut self,

@@ -1,4 +1,4 @@
-//! The distance to one target, by a search that lower bounds of the ways to it lead there.
+//! The distance to one target, by a search that lower bounds of the ways to it guide there.
 
 ghost use Rattle.std.specs.Prelude.{◌≡◌, ◌+◌, ◌*◌, ◌/◌, ◌≤◌, ◌<◌, ◌^◌, ◌↔◌, ℕ, Contains, None, Some, false, length, max, replicate, slice_set, IfOk, IfSome, IsTrue, OnOk, MatchBool, MatchOption};
 ghost use Rattle.std.specs.FinMap as map;
@@ -13,14 +13,14 @@ ghost use Rattle.deltastep.specs.Reach.{IsDistance};
 
 use crate::distances::RowError;
 use crate::search::top;
-use crate::stepping::ring_size;
+use crate::stepping::{narrower, ring_size};
 use crate::workspace::Workspace;
 use buckets::{BucketQueue, OrderedBuckets};
 use relax::Tentative;
 use snapshot::{Part, Snapshot};
 use std::alloc::Global;
 
-/// Lower bounds of what is left of the ways to a target.
+/// Lower bounds of the remaining ways to a target.
 pub trait Guide {
     /// The node where the ways end.
     ghost target: { Self → ℕ };
@@ -28,9 +28,9 @@ pub trait Guide {
     /// The snapshots whose ways it bounds.
     ghost knows: { Self → Groups → Type 0 };
 
-    /// A number that is at most the length of each way from the node to the target. What a search finds is the same whatever it is. Where it
-    /// is consistent no node comes back into a bucket that was left; a node may come back into its own, as in each search by buckets. A
-    /// greater one settles fewer nodes as a rule, not always.
+    /// A number that is at most the length of each way from the node to the target. What a search finds does not depend on it. If it is consistent, no node
+    /// comes back into a bucket that was left; a node may come back into its own bucket, as in each search by buckets. As a rule a greater bound settles
+    /// fewer nodes, but not always.
     fn bound(&self, node: u32) -> u64
         ensures below { (groups : Groups) → knows self.now groups → IsGrouped groups → 1 ≤ node → node ≤ groups.nodes → IsLowerBound groups (target self.now) node result };
 }
@@ -40,7 +40,7 @@ pub fn laws_of_guides()
     ensures consistent { ConsistentIsLowerBound }
 {}
 
-/// The key of a node of this value: with the guide's bound, but from `start` to `end`.
+/// The key of a node with this value: the value plus the guide's bound, but at least `start` and at most `end`.
 #[inline(always)]
 fn key_of<G: Guide>(guide: &G, node: u32, value: u64, start: u64, end: u64) -> u64
     requires window { start ≤ end }
@@ -52,7 +52,7 @@ fn key_of<G: Guide>(guide: &G, node: u32, value: u64, start: u64, end: u64) -> u
     wanted.min(end).max(start)
 }
 
-/// The start of the last bucket of as many in a row as the window says, or the greatest number where it is above that.
+/// The start of the last bucket of the window that begins with this bucket, or the greatest number of the type if it is above that.
 #[inline(always)]
 fn end_of(bucket: u64, window: u64, delta: u64) -> u64
     requires positive { (1 ≤ delta) × (1 ≤ window) }
@@ -63,9 +63,9 @@ fn end_of(bucket: u64, window: u64, delta: u64) -> u64
     bucket.saturating_add(window - 1).saturating_mul(delta)
 }
 
-/// The width of the buckets of keys: the greatest power of two that is at most an eighth of the snapshot's, or 1 where that is below 1. Along
-/// a least way keys hardly grow, so that of a bucket as wide as those of values many nodes would be relaxed more than once; and by a power of
-/// two a bucket is found without a division.
+/// The width of the buckets of keys: the greatest power of two that is at most an eighth of the snapshot's width, but at least 1. Along a shortest way keys
+/// hardly grow, so with buckets as wide as those of values many nodes would be relaxed more than once. With a power of two, a bucket is found without a
+/// division.
 fn width_of_keys(snapshot: &Snapshot) -> u32
     ensures positive { 1 ≤ result }
     ensures narrow { result ≤ max (snapshot.now.delta / 8) 1 }
@@ -83,7 +83,7 @@ pub struct KeyedSearch<Q> {
 }
 
 impl<Q: BucketQueue> KeyedSearch<Q> {
-    /// Lowers a node's value to the given one, if that is below `top` and the value so far, and queues the node by it. Tells whether it did.
+    /// Lowers a node's value to the given one, if that is below `top` and the present value, and queues the node by it. Returns whether it did.
     #[inline(always)]
     fn lower(&mut self, top: u64, node: u32, found: u64) -> Result<bool, RowError>
         requires node { (1 ≤ node) × (node < length self.old.tentative) }
@@ -106,7 +106,7 @@ impl<Q: BucketQueue> KeyedSearch<Q> {
         Ok(lowers)
     }
 
-    /// A search by keys that knows the source alone, with values of no node and a queue of no node, of whatever width.
+    /// A search by keys that knows only the source, with empty values and an empty queue, of any width.
     fn begin_guided(
         snapshot: &Snapshot,
         source: u32,
@@ -129,8 +129,8 @@ impl<Q: BucketQueue> KeyedSearch<Q> {
         Ok(search)
     }
 
-    /// Lowers a node's value to the given one, if that is below `top` and the value so far, and queues the node by a key from `start` to
-    /// `end`, which it gives.
+    /// Lowers a node's value to the given one, if that is below `top` and the present value, and queues the node by a key from `start` to `end`, which it
+    /// returns.
     #[inline(always)]
     fn lower_to<G: Guide>(
         &mut self,
@@ -249,7 +249,7 @@ impl<Q: BucketQueue> KeyedSearch<Q> {
         Ok(())
     }
 
-    /// Whether a node has a value, and that is at most the given one.
+    /// Whether a node has a value that is at most the given one.
     #[inline(always)]
     fn is_at_most(&self, node: u32, most: u64) -> bool
         requires node { (1 ≤ node) × (node < length self.now.tentative) }
@@ -261,8 +261,8 @@ impl<Q: BucketQueue> KeyedSearch<Q> {
         }
     }
 
-    /// Settles bucket after bucket of keys until the guide's target has its least value: until that is at most the start of the least bucket,
-    /// or no node is queued any more.
+    /// Settles bucket after bucket of keys until the value of the guide's target is final: until it is at most the start of the least bucket, or no node is
+    /// queued any more.
     fn settle_guided<G: Guide>(
         &mut self,
         alloc: Global,
@@ -296,7 +296,7 @@ impl<Q: BucketQueue> KeyedSearch<Q> {
     }
 }
 
-/// The distance from `source` to `target` with the given guide, values of no node and queue, and the values and the queue as the search leaves them.
+/// The distance from `source` to `target`, with the given guide, empty values and an empty queue; and the values and the queue as the search leaves them.
 #[inline(always)]
 fn guided_by<Q: BucketQueue + Drop, G: Guide>(
     alloc: Global,
@@ -324,7 +324,7 @@ fn guided_by<Q: BucketQueue + Drop, G: Guide>(
     Ok((tentative.get(target), tentative, buckets))
 }
 
-/// Takes out all that is still queued. After want of memory some of it may be left.
+/// Takes out all that is still queued. If memory runs out, some of it may remain.
 fn drain<Q: BucketQueue>(alloc: Global, queue: &mut Q) -> Result<(), RowError>
     ensures { OnOk result (Q.entries queue.new ≡ map.empty) }
 {
@@ -333,12 +333,12 @@ fn drain<Q: BucketQueue>(alloc: Global, queue: &mut Q) -> Result<(), RowError>
     Ok(())
 }
 
-/// The distance from `source` to `target`, as `distance_to_in` gives it, by a search that the guide leads to the target: nodes are settled in
-/// the order of their values with the guide's bounds. It uses the workspace as that does, whatever it holds, but for the ring, which it has of narrower
-/// buckets and leaves to the next such search. Its one error is want of memory.
+/// The distance from `source` to `target`, as `distance_to_in` gives it, by a search that the guide leads to the target: nodes are settled in the order of
+/// their value plus the guide's bound. It uses the workspace in the same way, whatever that holds, except that its ring has narrower buckets and is left to
+/// the next such search. Its only error is lack of memory.
 ///
-/// Led by bounds that are 0 it settles what that search does, or a bucket less. Of the network of `examples/six.gr`, from 1 to 4 it gives 12 by any guide, and
-/// from 6 to 1 nothing.
+/// If all bounds are 0, it settles what that search does, or one bucket less. In the network of `examples/six.gr`, from 1 to 4 it gives 12 with any guide,
+/// and from 6 to 1 nothing.
 pub fn distance_guided_in<G: Guide>(
     alloc: Global,
     snapshot: &Snapshot,
@@ -354,7 +354,8 @@ pub fn distance_guided_in<G: Guide>(
     ensures distance { IfOk result (λ distance. (net : Net) → IsSnapshotOf net snapshot.now → IsDistance net source target distance) }
 {
     let values = workspace.take_values(alloc, snapshot.nodes())?;
-    let delta = width_of_keys(snapshot);
+    let narrow = snapshot.narrowed()?;
+    let delta = width_of_keys(narrower(&narrow, snapshot));
     let Some(size) = ring_size(snapshot) else {
         let buckets = OrderedBuckets::new(alloc, delta);
         let (distance, values, _buckets) = guided_by(

@@ -1,4 +1,4 @@
-//! Nodes and their distances, out of the values of a search or out of a row.
+//! Nodes and their distances, from the values of a search or from a row.
 
 ghost use Rattle.std.specs.Prelude.{◌≡◌, ◌+◌, ◌≤◌, ◌<◌, ℕ, List, [], ◌∷◌, ◌++◌, Option, None, Some, if◌then◌else◌, length, map, IfOk, OnOk};
 ghost use Rattle.std.specs.List.{filter};
@@ -9,7 +9,7 @@ use crate::distances::{Distances, RowError};
 use relax::Tentative;
 use std::alloc::Global;
 
-/// A node, and the least length of a walk to it, or of one from it. The order is by distance, and then by node.
+/// A node, and the least length of a walk to it or from it. The order is by distance, and then by node.
 #[derive(Clone, Copy, Debug, PartialEq, Eq, PartialOrd, Ord)]
 pub struct NodeDistance {
     /// The least length.
@@ -45,7 +45,7 @@ impl Known for Distances {
     }
 }
 
-/// Whether a node has a value, and that is within the end, if there is one.
+/// Whether a node has a value, and that value is at most the end, if there is one.
 #[inline(always)]
 pub(crate) fn is_known<V: Known>(values: &V, node: u32, end: Option<u64>) -> bool
     requires node { (1 ≤ node) × (node < length (V.values values.now)) }
@@ -58,7 +58,7 @@ pub(crate) fn is_known<V: Known>(values: &V, node: u32, end: Option<u64>) -> boo
     }
 }
 
-/// Adds a node, if it has a value within the end.
+/// Adds a node, if it has a value that is at most the end.
 #[inline(always)]
 fn add_known<V: Known>(
     values: &V,
@@ -78,7 +78,7 @@ fn add_known<V: Known>(
     Ok(())
 }
 
-/// Those of these nodes that have values within the end, in their order. The one error is want of memory, for 4 bytes a node that it gives.
+/// Those of these nodes that have values up to the end, in their order. The only error is lack of memory, for 4 bytes a node that it returns.
 pub(crate) fn known_among<V: Known>(
     alloc: Global,
     values: &V,
@@ -95,7 +95,7 @@ pub(crate) fn known_among<V: Known>(
     Ok(known)
 }
 
-/// The nodes from 1 to `nodes` that have values up to the limit, ascending. The one error is want of memory, for 4 bytes a node that it gives.
+/// The nodes from 1 to `nodes` that have values up to the limit, ascending. The only error is lack of memory, for 4 bytes a node that it returns.
 pub(crate) fn all_known<V: Known>(
     alloc: Global,
     values: &V,
@@ -112,7 +112,7 @@ pub(crate) fn all_known<V: Known>(
     Ok(known)
 }
 
-/// These nodes with their values, in their order. The one error is want of memory, for 16 bytes a node.
+/// These nodes with their values, in their order. The only error is lack of memory, for 16 bytes a node.
 pub(crate) fn told<V: Known>(
     alloc: Global,
     values: &V,

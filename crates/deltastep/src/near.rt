@@ -1,4 +1,4 @@
-//! Where a repair begins its search, found by way of the legs that lead to what was lost.
+//! Where a repair begins its search, found by way of the legs that lead to nodes that lost their values.
 
 ghost use Rattle.std.specs.Prelude.{◌≡◌, ℕ, ◌+◌, ◌≤◌, ◌<◌, ◌^◌, None, IsSome, OnOk, IfOk, All, length};
 ghost use Rattle.std.specs.FinMap as map;
@@ -17,7 +17,7 @@ use buckets::BucketQueue;
 use relax::Tentative;
 use snapshot::{Leg, Part, Snapshot};
 
-/// Queues those of the heads of these legs of which some leg leads to less than is known. Tells whether each of their values fits.
+/// Of the heads of these legs, queues those with a leg that leads to less than is known. Returns whether each of their values fits.
 #[inline(always)]
 fn queue_heads<Q: BucketQueue>(
     snapshot: &Snapshot,
@@ -54,8 +54,8 @@ fn is_lost(row: &Distances, tentative: &Tentative, node: u32) -> bool
     row.get(u64::from(node)).is_some()
 }
 
-/// Queues those of the nodes with a leg to this one, where it lost its value, of which some leg leads to less than is known. `back` has for each leg one
-/// from its head to its tail. Tells whether each of their values fits.
+/// If this node lost its value, queues those nodes with a leg to it that have a leg which leads to less than is known. For each leg, `back` has one from
+/// its head to its tail. Returns whether each of their values fits.
 #[inline(always)]
 fn queue_tails<Q: BucketQueue>(
     snapshot: &Snapshot,
@@ -87,7 +87,7 @@ fn queue_tails<Q: BucketQueue>(
     Ok(true)
 }
 
-/// Queues the node, if it is one, and some leg of it leads to less than is known. Tells whether its value fits.
+/// Queues the node, if it is one and some leg of it leads to less than is known. Returns whether its value fits.
 #[inline(always)]
 fn queue_changed<Q: BucketQueue>(
     snapshot: &Snapshot,
@@ -109,7 +109,7 @@ fn queue_changed<Q: BucketQueue>(
     queue_owing(snapshot, tentative, node, buckets)
 }
 
-/// Queues those of these nodes of which some leg leads to less than is known. Tells whether each of their values fits.
+/// Of these nodes, queues those with a leg that leads to less than is known. Returns whether each of their values fits.
 fn queue_all_changed<Q: BucketQueue>(
     snapshot: &Snapshot,
     tentative: &Tentative,
@@ -131,8 +131,8 @@ fn queue_all_changed<Q: BucketQueue>(
     Ok(true)
 }
 
-/// Queues each node of which some leg leads to less than is known, into an empty queue: such a node has other legs than before, or a leg to a node that lost
-/// its value. Tells whether each of their values fits. It looks at each node once, and at the legs of those alone.
+/// Queues, into an empty queue, each node with a leg that leads to less than is known: such a node has other legs than before, or a leg to a node that lost
+/// its value. Returns whether each of their values fits. It looks at each node once, and only at the legs of those nodes.
 pub(crate) fn queue_near<Q: BucketQueue>(
     snapshot: &Snapshot,
     before: &Snapshot,

@@ -29,7 +29,7 @@ fn count_known(values: &Tentative, among: &[u32], end: u64) -> usize
     count
 }
 
-/// The nearest of these nodes, as many as the count, out of values that are final up to the end, and enough. The one error is want of memory.
+/// The nearest of these nodes, as many as the count, given values that are final up to the end, and that are enough. The only error is lack of memory.
 fn nearest_by<V: Known>(
     alloc: Global,
     values: &V,
@@ -49,7 +49,7 @@ fn nearest_by<V: Known>(
     Ok(nearest)
 }
 
-/// The nearest of some nodes.
+/// The question for the nearest of some nodes.
 #[derive(Drop)]
 struct Nearest<'a> {
     among: &'a [u32],
@@ -78,14 +78,14 @@ impl<'a> Asked for Nearest<'a> {
     }
 }
 
-/// Of these nodes, which ascend, the `count` nearest to `source` by the least lengths of walks from it, or fewer where walks lead to fewer:
-/// ascending by length, and of two as near the one of the lower number first. Its one error is want of memory.
+/// Of these ascending nodes, the `count` nearest to `source` by the least lengths of walks from it, or fewer if walks lead to fewer: ascending by length,
+/// and the lower number first if two are equally near. Its only error is lack of memory.
 ///
-/// The search settles bucket after bucket until so many of the nodes are final, or all of them, and takes time and memory for the nodes that
-/// it comes to by then, whatever the workspace holds: it takes up its values and its queue, and leaves its memory of nodes as it is.
+/// The search settles bucket after bucket until so many of the nodes are final, or all of them. It takes time and memory for the nodes that it meets by
+/// then, whatever the workspace holds: it uses its values and its queue, and leaves its memory of nodes as it is.
 ///
-/// Of the network of `examples/six.gr`, from 1 the two nearest of 2, 3, 4 and 6 are 2 and 3, both at 10, and from 3 the nearest of 1, 2 and
-/// 6 are 2 at 0 and 6 at 5, since no walk leads to 1.
+/// In the network of `examples/six.gr`, from 1 the two nearest of 2, 3, 4 and 6 are 2 and 3, both at 10. From 3 the nearest of 1, 2 and 6 are 2 at 0 and 6
+/// at 5, since no walk leads to 1.
 pub fn nearest_in<T: Team>(
     alloc: Global,
     snapshot: &Snapshot,
@@ -103,9 +103,9 @@ pub fn nearest_in<T: Team>(
     answer_in(alloc, snapshot, source, &asked, team, workspace)
 }
 
-/// The same nodes out of the row of the source. Its one error is want of memory, for 20 bytes for each of the nodes.
+/// The same nodes, from the row of the source. Its only error is lack of memory, for 20 bytes for each of the nodes.
 ///
-/// Of the row of node 3 in the network of `examples/six.gr`, of 2 and 6 the nearest is 2, at 0.
+/// From the row of node 3 in the network of `examples/six.gr`, the nearest of 2 and 6 is 2, at 0.
 pub fn nearest_of_row(
     alloc: Global,
     row: &Distances,

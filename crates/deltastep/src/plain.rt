@@ -9,11 +9,11 @@ use std::alloc::Global;
 
 /// The row of `source`: the least length of a walk from it to each node, or that there is none.
 ///
-/// It goes over all arcs in rounds and lowers what is nearer by way of an open arc, until a round lowers nothing: at most as many
-/// rounds as there are nodes, fewer where the arcs stand in the order of the walks. It is the slow member that others are compared
-/// with. Its one error is want of memory, for 8 bytes a node.
+/// It passes over all arcs in rounds, and lowers the length of each node that an open arc brings nearer, until a round lowers nothing: at most as many
+/// rounds as there are nodes, fewer if the arcs are in the order of the walks. It is the slow implementation with which others are compared. Its only error
+/// is lack of memory, for 8 bytes a node.
 ///
-/// Of the network of `examples/six.gr`, the row of node 1 has the lengths 0, 10, 10, 12, 10 and 15, as that of `row`.
+/// In the network of `examples/six.gr`, the row of node 1 has the lengths 0, 10, 10, 12, 10 and 15, as that of `row`.
 pub fn plain_row(alloc: Global, network: &Network, source: u32) -> Result<Distances, RowError>
     requires { IsNode network.now source }
     ensures { IfOk result (λ row. RowOf network.now source row) }
@@ -25,7 +25,7 @@ pub fn plain_row(alloc: Global, network: &Network, source: u32) -> Result<Distan
     Distances::from_words(words)
 }
 
-/// Relaxes each arc once. Says whether some node came nearer.
+/// Relaxes each arc once. Returns whether some node came nearer.
 fn relax_all(network: &Network, words: &mut [u64]) -> bool
     requires { IsBounded network.now.nodes words.old }
     ensures bounded { IsBounded network.now.nodes words.new }
@@ -41,7 +41,7 @@ fn relax_all(network: &Network, words: &mut [u64]) -> bool
     nearer
 }
 
-/// Lowers the word of the arc's head to the way by this arc, where that is nearer.
+/// Lowers the word of the arc's head to the length of the way by this arc, if that is less.
 fn relax(arc: RoadArc, words: &mut [u64]) -> bool
     requires arc { IsArcAmong (length words.old) arc }
     requires bounded { IsBounded (length words.old) words.old }

@@ -16,7 +16,7 @@ use relax::{Team, Tentative};
 use snapshot::Snapshot;
 use std::alloc::Global;
 
-/// These nodes, ascending and each once.
+/// These nodes as a set: ascending and each once.
 fn as_set(nodes: Vec<u32>) -> Vec<u32>
     ensures ascending { IsStrictlyIncreasing result.items }
     ensures same { (u : ℕ) → Contains result.items u ↔ Contains nodes.items u }
@@ -27,7 +27,7 @@ fn as_set(nodes: Vec<u32>) -> Vec<u32>
     nodes
 }
 
-/// The nodes from 1 to `nodes` that have values up to the limit, each once or more: those that were noted are looked at, or where none were, all.
+/// The nodes from 1 to `nodes` that have values up to the limit, each at least once. It examines the noted nodes, or all of them if none were noted.
 fn nodes_within(
     alloc: Global,
     values: &Tentative,
@@ -43,7 +43,7 @@ fn nodes_within(
     }
 }
 
-/// The nodes from 1 to `nodes` that are within a limit.
+/// The question for the nodes from 1 to `nodes` within a limit.
 #[derive(Drop)]
 struct Within {
     nodes: u32,
@@ -72,14 +72,13 @@ impl Asked for Within {
     }
 }
 
-/// The nodes that walks from `source` reach within `limit`, each with the least length, ascending by node; the source itself is one of them,
-/// with 0. Its one error is want of memory.
+/// The nodes that walks from `source` reach within `limit`, each with the least length, ascending by node. The source itself is one of them, with 0. Its
+/// only error is lack of memory.
 ///
-/// The search settles bucket after bucket up to the one that the limit lies in, and takes time and memory for the nodes that it comes to by
-/// then, whatever the workspace holds: it takes up its values and its queue, and leaves its memory of nodes as it is.
+/// The search settles bucket after bucket up to the one that contains the limit. It takes time and memory for the nodes that it meets by then, whatever the
+/// workspace holds: it uses its values and its queue, and leaves its memory of nodes as it is.
 ///
-/// Of the network of `examples/six.gr`, from 1 within 10 it gives 1, 2, 3 and 5, with the lengths 0, 10, 10 and 10, and from 6 the node 6
-/// alone.
+/// In the network of `examples/six.gr`, from 1 within 10 it gives 1, 2, 3 and 5, with the lengths 0, 10, 10 and 10, and from 6 only the node 6.
 pub fn reach_in<T: Team>(
     alloc: Global,
     snapshot: &Snapshot,
@@ -98,8 +97,8 @@ pub fn reach_in<T: Team>(
     answer_in(alloc, snapshot, source, &asked, team, workspace)
 }
 
-/// The nodes from which walks reach `target` within `limit`, each with the least length, ascending by node, as the nodes that `target`
-/// reaches over a snapshot of the reversed network. Its one error is want of memory.
+/// The nodes from which walks reach `target` within `limit`, each with the least length, ascending by node: the nodes that `target` reaches over a snapshot
+/// of the reversed network. Its only error is lack of memory.
 ///
 /// In the network of `examples/six.gr`, 4 is reached within 2 from 2, 3, 4 and 5, with the lengths 2, 2, 0 and 2.
 pub fn reached_in<T: Team>(
@@ -116,10 +115,10 @@ pub fn reached_in<T: Team>(
     reach_in(alloc, back, target, limit, team, workspace)
 }
 
-/// The nodes of `reach_in` out of the row of the source, in a network of so many nodes. Its one error is want of memory, for 20 bytes a node that it
-/// gives.
+/// The nodes of `reach_in`, from the row of the source, in a network of so many nodes. Its only error is lack of memory, for 20 bytes a node that it
+/// returns.
 ///
-/// Of the row of node 1 in the network of `examples/six.gr`, whose lengths are 0, 10, 10, 12, 10 and 15, within 12 it gives all but node 6.
+/// From the row of node 1 in the network of `examples/six.gr`, whose lengths are 0, 10, 10, 12, 10 and 15, within 12 it gives all but node 6.
 pub fn reach_of_row(
     alloc: Global,
     row: &Distances,

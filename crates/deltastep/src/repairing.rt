@@ -24,7 +24,7 @@ use relax::{Team, Tentative};
 use snapshot::{Leg, Part, Snapshot};
 use std::alloc::Global;
 
-/// A ring of buckets has at most so many lists. One of that many holds values far apart, as those are with which a repair begins.
+/// The most lists of a ring of buckets. A ring with so many holds values that are far apart, as those are with which a repair begins.
 const MOST_LISTS: u32 = 65536;
 
 /// Whether the leg is among these.
@@ -59,7 +59,7 @@ pub(crate) fn is_sum(distance: Option<u64>, value: u64, length: u32) -> bool
     }
 }
 
-/// The values of a row that are left, and the nodes that lost theirs and whose legs are still to be looked at.
+/// The values of a row that remain, and the nodes that lost theirs and whose legs are still to be examined.
 #[derive(Drop)]
 struct Remains {
     tentative: Tentative,
@@ -67,7 +67,7 @@ struct Remains {
 }
 
 impl Remains {
-    /// Takes a node's value away, if it has one and is not the source.
+    /// Removes a node's value, if it has one and is not the source.
     #[inline(always)]
     fn lose(&mut self, source: u32, node: u32) -> Result<(), RowError>
         requires node { (1 ≤ node) × (node < length self.old.tentative) }
@@ -84,7 +84,7 @@ impl Remains {
         Ok(())
     }
 
-    /// Takes the value of the leg's head away, if the leg is tight.
+    /// Removes the value of the leg's head, if the leg is tight.
     #[inline(always)]
     fn lose_tight(
         &mut self,
@@ -103,7 +103,7 @@ impl Remains {
         self.lose(source, leg.head)
     }
 
-    /// Takes the value of the leg's head away, if the leg is tight and the node has no such leg now.
+    /// Removes the value of the leg's head, if the leg is tight and the node no longer has such a leg.
     #[inline(always)]
     fn lose_gone(
         &mut self,
@@ -124,7 +124,7 @@ impl Remains {
         self.lose_tight(source, row, value, leg)
     }
 
-    /// Takes the values of the heads of the tight ones of these legs away.
+    /// Removes the values of the heads of those legs that are tight.
     #[inline(always)]
     fn lose_heads(
         &mut self,
@@ -143,7 +143,7 @@ impl Remains {
         Ok(())
     }
 
-    /// Takes the values of the heads of the tight ones of these legs of a node away, where it has no such leg now.
+    /// Removes the values of the heads of those legs of a node that are tight and that the node no longer has.
     #[inline(always)]
     fn lose_gone_heads(
         &mut self,
@@ -164,7 +164,7 @@ impl Remains {
         Ok(())
     }
 
-    /// Takes away the values that hang on tight legs of this node that are gone.
+    /// Removes the values that depend on tight legs of this node that are gone.
     #[inline(always)]
     fn lose_behind_gone(
         &mut self,
@@ -200,7 +200,7 @@ impl Remains {
         Ok(())
     }
 
-    /// Takes away the values that hang on tight legs of these nodes that are gone.
+    /// Removes the values that depend on tight legs of these nodes that are gone.
     fn lose_changed(
         &mut self,
         before: &Snapshot,
@@ -219,7 +219,7 @@ impl Remains {
         Ok(())
     }
 
-    /// Takes away the values that hang on tight legs of this node, which lost its own.
+    /// Removes the values that depend on tight legs of this node, which lost its own.
     #[inline(always)]
     fn lose_behind(
         &mut self,
@@ -240,7 +240,8 @@ impl Remains {
         Ok(())
     }
 
-    /// Takes away all values that hang on tight legs of nodes that lost theirs, unless these are `most` or more. Tells whether none is left.
+    /// Removes all values that depend on tight legs of nodes that lost theirs, unless these are `most` or more. Returns whether none remains to be
+    /// examined.
     fn spread(
         &mut self,
         after: &Snapshot,
@@ -263,7 +264,7 @@ impl Remains {
     }
 }
 
-/// Whether the way is shorter than what is known, or nothing is known.
+/// Whether the way is shorter than the known one, or none is known.
 fn is_less(through: u64, known: Option<u64>) -> bool
     ensures { OnFalse result ((top : ℕ) → unwrap_or known top ≤ through) }
 {
@@ -305,7 +306,7 @@ fn owes(snapshot: &Snapshot, tentative: &Tentative, node: u32, value: u64) -> bo
     false
 }
 
-/// Queues the node with its value, if some leg of it leads to less than is known. Tells whether the value fits the queue, if it has to.
+/// Queues the node with its value, if some leg of it leads to less than is known. Returns whether the value fits the queue, if it had to.
 #[inline(always)]
 pub(crate) fn queue_owing<Q: BucketQueue>(
     snapshot: &Snapshot,
@@ -335,7 +336,7 @@ pub(crate) fn queue_owing<Q: BucketQueue>(
     Ok(true)
 }
 
-/// The values of a row before a change that are still lengths of walks for sure, or nothing where too many are not.
+/// The values of a row before a change that are certainly still lengths of walks, or nothing if too many are not.
 fn remaining(
     alloc: Global,
     before: &Snapshot,
@@ -364,7 +365,7 @@ fn remaining(
     Ok(Some(tentative))
 }
 
-/// The row of `source` by a search that goes on from these values and this queue, with a memory of no node; and the queue as the search leaves it.
+/// The row of `source`, by a search that continues from these values and this queue, with an empty memory of nodes; and the queue as the search leaves it.
 #[inline(always)]
 fn goes_on<Q: BucketQueue + Drop, T: Team>(
     alloc: Global,
@@ -391,7 +392,7 @@ fn goes_on<Q: BucketQueue + Drop, T: Team>(
     Ok((Distances::from_words(tentative.into_words())?, buckets))
 }
 
-/// The row of `source` by a search that goes on from what is left of its row before a change, found by way of the legs back.
+/// The row of `source`, by a search that continues from what remains of its row before a change, found by way of the legs back.
 fn repaired<T: Team>(
     alloc: Global,
     snapshot: &Snapshot,
@@ -459,14 +460,14 @@ fn repaired<T: Team>(
     row_in(alloc, snapshot, source, team, workspace)
 }
 
-/// The row of `source` in a network, made out of its row in the network before a change. It is the row that `row_in` makes, whatever the workspace holds, and
-/// the search uses that as the one of `row_in` does.
+/// The row of `source` in a network, made from its row in the network before a change. It is the row that `row_in` makes, whatever the workspace holds, and
+/// the search uses the workspace as that of `row_in` does.
 ///
-/// `before` and `snapshot` are the snapshots of the two networks, which have the same nodes, `changed` has each node of which some leg is not the same in
-/// both, as `changed_nodes` gives them, and `back` has for each leg of the new snapshot one from its head to its tail, as `back_of` gives them. Nodes whose
-/// least walks may use a leg that is gone lose their distance, and so do those behind them; then the search goes on from the nodes of which some leg leads to
-/// less than is known. Beside the copy of the row and one look at each node, it takes time for what was lost and changed alone, with the legs around it.
-/// Where an eighth of the nodes or more lose their distance, the row is made anew. Its one error is want of memory.
+/// `before` and `snapshot` are the snapshots of the two networks, which have the same nodes. `changed` has each node that does not have the same legs in
+/// both, as `changed_nodes` gives them. For each leg of the new snapshot, `back` has one from its head to its tail, as `back_of` gives them. Nodes whose
+/// shortest walks may use a leg that is gone lose their distance, and so do the nodes that depend on these. Then the search continues from the nodes with a
+/// leg that leads to less than is known. Beside the copy of the row and one look at each node, it takes time only for what was lost and changed, with the
+/// legs around it. If an eighth of the nodes or more lose their distance, the row is made anew. Its only error is lack of memory.
 pub fn row_after<T: Team>(
     alloc: Global,
     snapshot: &Snapshot,

@@ -19,7 +19,7 @@ use roadnet::LONGEST_ARC;
 use snapshot::{Leg, Part, Snapshot};
 use std::alloc::Global;
 
-/// One above the length of every walk that visits no node twice: a longer way is dropped.
+/// One above the length of every walk that visits no node twice: longer ways are dropped.
 #[inline(always)]
 #[tactic(auto, unfolding(crate::specs::Search::top_of))]
 pub(crate) fn top(snapshot: &Snapshot) -> u64
@@ -30,7 +30,7 @@ pub(crate) fn top(snapshot: &Snapshot) -> u64
     u64::from(snapshot.nodes() - 1) * u64::from(LONGEST_ARC) + 1
 }
 
-/// Whether the value is less than `delta` above the start of a bucket: for a value of the bucket or a later one, whether it is in the bucket.
+/// Whether the value is less than `delta` above the start of a bucket. For a value of that bucket or a later one, this is whether it is in the bucket.
 #[inline(always)]
 fn is_near(start: u64, value: u64, delta: u64) -> bool
     requires positive { 1 ≤ delta }
@@ -40,7 +40,7 @@ fn is_near(start: u64, value: u64, delta: u64) -> bool
     value - start < delta
 }
 
-/// Whether the list has one node, and that node no light legs: nothing comes back into its bucket then, and no node has to be remembered.
+/// Whether the list has a single node without light legs. Then no node comes back into its bucket, and no node has to be remembered.
 #[inline(always)]
 fn is_alone(snapshot: &Snapshot, nodes: &[u32]) -> bool
     ensures once { OnTrue result (IsDistinct (λ a b. a == b) nodes.now) }
@@ -52,17 +52,16 @@ fn is_alone(snapshot: &Snapshot, nodes: &[u32]) -> bool
     }
 }
 
-/// A search under way: the least value found so far for each node, and the nodes whose legs are still to be relaxed: a frontier.
+/// A search under way: a frontier, which has the least value found so far for each node, and the nodes whose legs are still to be relaxed.
 ///
-/// It begins with `begin`, and goes on by `take_bucket` and `settle` in turn, until no bucket is left. After an `Err` it is not
-/// used again.
+/// It begins with `begin`, and continues with `take_bucket` and `settle` in turn, until no bucket is left. After an `Err` it is not used again.
 #[derive(Drop)]
 pub struct Search<F> {
     pub(crate) frontier: F,
 }
 
 impl<F: Frontier> Search<F> {
-    /// A search that knows the source alone, which is queued with 0, over a frontier of values of which no node has one.
+    /// A search that knows only the source, which is queued with 0, over a frontier without values.
     pub fn begin(snapshot: &Snapshot, source: u32, frontier: F) -> Result<Search<F>, RowError>
     where
         F: Drop,
@@ -79,12 +78,12 @@ impl<F: Frontier> Search<F> {
         Ok(search)
     }
 
-    /// Takes the least bucket that is not empty: gives its number, or nothing where no node is queued, and puts its nodes, each once, into
-    /// the given list in place of what was there. Where all values that are queued lie in `ceil(L / delta) + 1` buckets in a row, with L the greatest
-    /// length of a leg, they do so from the one that is taken on. So it is in each search that knew the source alone when it began.
+    /// Takes the least bucket that is not empty. Returns its number, or nothing if no node is queued, and puts its nodes, each once, into the given list in
+    /// place of what was there. If all queued values are in `ceil(L / delta) + 1` buckets in a row, where L is the greatest length of a leg, then they are
+    /// in as many buckets from the taken one on. That holds in each search that knew only the source when it began.
     ///
-    /// In the network of `examples/six.gr`, from node 1 with buckets of width 5, it gives bucket 0 with node 1, then 2 with node 3, then 3 with
-    /// node 6, and then nothing; `settle` of bucket 2 takes nodes 5, 2 and 4 in between.
+    /// In the network of `examples/six.gr`, from node 1 with buckets of width 5, it gives bucket 0 with node 1, then 2 with node 3, then 3 with node 6, and
+    /// then nothing. Between them, `settle` of bucket 2 takes nodes 5, 2 and 4.
     #[inline(always)]
     pub fn take_bucket(
         &mut self,
@@ -101,7 +100,7 @@ impl<F: Frontier> Search<F> {
         Ok(self.frontier.take_least_into(taken)?)
     }
 
-    /// Settles bucket after bucket until none is left, with the memory of nodes that is given.
+    /// Settles bucket after bucket until none is left, with the given memory of nodes.
     #[inline(always)]
     pub(crate) fn settle_all<T: Team>(
         &mut self,
@@ -122,8 +121,8 @@ impl<F: Frontier> Search<F> {
         Ok(())
     }
 
-    /// Takes the least bucket that is not empty and settles it: gives its number, or nothing where no node is queued. All that is queued then
-    /// is in later buckets. The list is used for the nodes that are taken.
+    /// Takes the least bucket that is not empty and settles it. Returns its number, or nothing if no node is queued. Then all queued nodes are in later
+    /// buckets. The list is used for the nodes that are taken.
     #[inline(always)]
     pub(crate) fn settle_next<T: Team>(
         &mut self,
@@ -149,8 +148,8 @@ impl<F: Frontier> Search<F> {
         Ok(Some(bucket))
     }
 
-    /// Settles a bucket, given the nodes that were taken from it: relaxes light legs while nodes come back into it, and then the heavy
-    /// legs of all nodes that were taken. Nothing is left in the bucket. The list is used for the nodes that come back.
+    /// Settles a bucket, given the nodes that were taken from it: relaxes light legs while nodes come back into it, and then the heavy legs of all nodes
+    /// that were taken. The bucket is empty afterwards. The list is used for the nodes that come back.
     #[inline(always)]
     pub fn settle<T: Team>(
         &mut self,
@@ -225,8 +224,8 @@ impl<F: Frontier> Search<F> {
         Ok(())
     }
 
-    /// Relaxes the light legs of nodes that were taken from a bucket, and takes out the nodes that came back into it, if any,
-    /// in place of those.
+    /// Relaxes the light legs of nodes that were taken from a bucket. Takes out the nodes that came back into it, if there are any, and puts them in the
+    /// list in place of the former.
     #[inline(always)]
     fn phase<T: Team>(
         &mut self,
@@ -258,7 +257,7 @@ impl<F: Frontier> Search<F> {
         Ok(())
     }
 
-    /// Relaxes the legs of a part of the nodes, whose values are in the given bucket, and tells whether a node came into it.
+    /// Relaxes one part of the legs of the nodes, whose values are in the given bucket, and returns whether a node came into that bucket.
     #[inline(always)]
     pub(crate) fn relax<T: Team>(
         &mut self,
@@ -291,8 +290,8 @@ impl<F: Frontier> Search<F> {
         Ok(came_back)
     }
 
-    /// Meets the requests that the nodes make, and tells whether a node came into the given bucket. The requests of one node alone need
-    /// neither a list nor a team.
+    /// Meets the requests of the nodes, and returns whether a node came into the given bucket. The requests of a single node need neither a list nor a
+    /// team.
     #[inline(always)]
     fn ask<T: Team>(
         &mut self,
@@ -328,7 +327,7 @@ impl<F: Frontier> Search<F> {
         self.meet(top, bucket, &requests)
     }
 
-    /// Meets the requests of one node, whose value is given, leg by leg, and tells whether a node came into the given bucket.
+    /// Meets the requests of one node, whose value is given, leg by leg, and returns whether a node came into the given bucket.
     #[inline(always)]
     fn meet_legs(
         &mut self,
@@ -361,7 +360,7 @@ impl<F: Frontier> Search<F> {
         Ok(came_back)
     }
 
-    /// Meets the requests in order, and tells whether a node came into the given bucket.
+    /// Meets the requests in order, and returns whether a node came into the given bucket.
     fn meet(&mut self, top: u64, bucket: u64, requests: &[(u32, u64)]) -> Result<bool, RowError>
         requires nodes { All (λ r. (1 ≤ r.0) × (r.0 < length (F.tentative self.old.frontier))) requests.now }
         requires fits { All (λ r. F.accepts self.old.frontier r.1) requests.now }
@@ -387,7 +386,7 @@ impl<F: Frontier> Search<F> {
         Ok(came_back)
     }
 
-    /// Meets one request, and tells whether its node came into the given bucket, whose start and width are given.
+    /// Meets one request, and returns whether its node came into the given bucket, whose start and width are given.
     #[inline(always)]
     fn meet_one(
         &mut self,
@@ -421,7 +420,7 @@ impl<F: Frontier> Search<F> {
         Ok(is_near(start, value, delta))
     }
 
-    /// Lowers a node's value to the given one, if that is below `top` and the value so far, and queues the node. Tells whether it did.
+    /// Lowers a node's value to the given one, if that is below `top` and the present value, and queues the node. Returns whether it did.
     #[inline(always)]
     pub(crate) fn lower(&mut self, top: u64, node: u32, value: u64) -> Result<bool, RowError>
         requires node { (1 ≤ node) × (node < length (F.tentative self.old.frontier)) }

@@ -8,7 +8,7 @@ use crate::distances::RowError;
 use relax::Tentative;
 use std::alloc::{AllocError, Global};
 
-/// What is known of the node of each request, or `top` where nothing is, in a loop that does nothing else.
+/// The known value of the node of each request, or `top` if none is known, in a loop that does nothing else.
 #[inline(always)]
 fn look_up(
     alloc: Global,
@@ -27,8 +27,7 @@ fn look_up(
     Ok(known)
 }
 
-/// Moves those of these requests whose value is below what is known to the front, in their order, and tells how many they are. No branch hangs on
-/// a value.
+/// Moves those requests whose value is below the known one to the front, in their order, and returns how many they are. No branch depends on a value.
 #[inline(always)]
 fn compact(requests: &mut Vec<(u32, u64)>, known: &[u64]) -> usize
     requires len { length known.now ≡ length requests.old.items }
@@ -44,7 +43,7 @@ fn compact(requests: &mut Vec<(u32, u64)>, known: &[u64]) -> usize
     kept
 }
 
-/// Keeps of these requests those that ask for less than is known. The one error is want of memory, for 8 bytes a request.
+/// Keeps those requests that ask for less than is known. The only error is lack of memory, for 8 bytes a request.
 #[inline(always)]
 pub(crate) fn sift(
     alloc: Global,

@@ -4,13 +4,13 @@ ghost use Rattle.std.specs.Prelude.{◌≡◌, ◌+◌, ◌/◌, ◌≤◌, ◌<
 ghost use Rattle.relax.specs.Values.{value_at};
 ghost use Rattle.roadnet.specs.Net.{Net};
 ghost use Rattle.snapshot.specs.Groups.{IsSnapshotOf};
-ghost use Rattle.deltastep.specs.Search.{IsFinal, Suits};
+ghost use Rattle.deltastep.specs.Search.{IsFinal, IsNarrowedOf, Suits, most_lists};
 ghost use Rattle.deltastep.specs.Stepping.{HasWidth, IsBetween, StaysBetween};
 ghost use Rattle.deltastep.specs.Reach.{IsDistance};
 
 use crate::distances::RowError;
 use crate::search::Search;
-use crate::stepping::ring_size;
+use crate::stepping::{narrower, ring_size};
 use crate::workspace::Workspace;
 use buckets::{BucketQueue, OrderedBuckets};
 use frontier::{Frontier, LazyRing, Queued, Remembered};
@@ -19,8 +19,8 @@ use snapshot::Snapshot;
 use std::alloc::Global;
 
 impl<F: Frontier> Search<F> {
-    /// Settles bucket after bucket until the value of `target` is final: until the bucket that it is in is settled, since no arc leads from a
-    /// later bucket back to less, or no node is queued any more.
+    /// Settles bucket after bucket until the value of `target` is final: until its bucket is settled, since no arc leads from a later bucket back to less,
+    /// or until no node is queued any more.
     #[inline(always)]
     fn settle_until<T: Team>(
         &mut self,
@@ -49,7 +49,7 @@ impl<F: Frontier> Search<F> {
         Ok(())
     }
 
-    /// Whether a node has a value, and that is in the given bucket or an earlier one.
+    /// Whether a node has a value, in the given bucket or an earlier one.
     #[inline(always)]
     fn is_within(&self, node: u32, bucket: u64, delta: u64) -> bool
         requires node { (1 ≤ node) × (node < length (F.tentative self.now.frontier)) }
@@ -63,7 +63,7 @@ impl<F: Frontier> Search<F> {
     }
 }
 
-/// The distance from `source` to `target` with the given team, values of no node and queue; the values are kept for the next search.
+/// The distance from `source` to `target`, with the given team, empty values and an empty queue. The values are kept for the next search.
 fn distance_with<Q: BucketQueue + Drop, T: Team>(
     alloc: Global,
     snapshot: &Snapshot,
@@ -78,7 +78,7 @@ fn distance_with<Q: BucketQueue + Drop, T: Team>(
     requires source { (1 ≤ source) × (source ≤ snapshot.now.nodes) }
     requires target { (1 ≤ target) × (target ≤ snapshot.now.nodes) }
     requires suits { Suits snapshot.now (Q.entries buckets) (Q.accepts buckets) (Q.width buckets) (Q.span buckets) }
-    ensures distance { IfOk result (λ distance. (net : Net) → IsSnapshotOf net snapshot.now → IsDistance net source target distance) }
+    ensures distance { IfOk result (λ distance. (net : Net) → IsNarrowedOf net snapshot.now → IsDistance net source target distance) }
 {
     let mut remembered = Remembered::new(alloc, snapshot.nodes() as usize + 1)?;
     let frontier = Queued {
@@ -102,8 +102,8 @@ fn distance_with<Q: BucketQueue + Drop, T: Team>(
     Ok(distance)
 }
 
-/// The distance from `source` to `target` with the given team, a frontier of no value and no queued node, and memory of no node; and the frontier as the
-/// search leaves it.
+/// The distance from `source` to `target`, with the given team, a frontier without values and queued nodes, and an empty memory of nodes; and the frontier
+/// as the search leaves it.
 #[inline(always)]
 fn distance_by<F: Frontier + Drop, T: Team>(
     alloc: Global,
@@ -119,7 +119,7 @@ fn distance_by<F: Frontier + Drop, T: Team>(
     requires target { (1 ≤ target) × (target ≤ snapshot.now.nodes) }
     requires suits { Suits snapshot.now (F.entries frontier) (F.accepts frontier) (F.width frontier) (F.span frontier) }
     requires none { remembered.old ≡ record { limit = snapshot.now.nodes + 1; nodes = [] } }
-    ensures distance { IfOk result (λ found. (net : Net) → IsSnapshotOf net snapshot.now → IsDistance net source target found.0) }
+    ensures distance { IfOk result (λ found. (net : Net) → IsNarrowedOf net snapshot.now → IsDistance net source target found.0) }
 {
     let mut search = Search::begin(snapshot, source, frontier)?;
     search.settle_until(alloc, snapshot, target, team, remembered)?;
@@ -128,14 +128,14 @@ fn distance_by<F: Frontier + Drop, T: Team>(
     Ok((distance, frontier))
 }
 
-/// The least length of a walk from `source` to `target`, or nothing where no walk leads there: what the row of `source` has for `target`,
-/// by a search that stops as soon as that is known. Its one error is want of memory: it takes what a row does.
+/// The least length of a walk from `source` to `target`, or nothing if no walk leads there: what the row of `source` has for `target`, by a search that
+/// stops as soon as that is known. Its only error is lack of memory: it takes what a row does.
 ///
-/// The search takes what an earlier one left in the workspace, whatever that is, and leaves its own, the values wiped: so
-/// where it stops after a few nodes, it takes time and memory for these alone; only where the ring would be too long, which then is no ring,
-/// a flag a node is made anew. After an `Err` it leaves nothing.
+/// The search takes what an earlier one left in the workspace, whatever that is, and leaves its own, with the values wiped. So if it stops after a few
+/// nodes, it takes time and memory only for these. If the ring would be too long, there is no ring, and a flag for each node is made anew. After an `Err`
+/// it leaves nothing.
 ///
-/// Of the network of `examples/six.gr`, from 1 to 4 it gives 12, and from 6 to 1 nothing.
+/// In the network of `examples/six.gr`, from 1 to 4 it gives 12, and from 6 to 1 nothing.
 pub fn distance_to_in<T: Team>(
     alloc: Global,
     snapshot: &Snapshot,
@@ -155,6 +155,30 @@ pub fn distance_to_in<T: Team>(
             alloc, snapshot, source, target, team, values, buckets, workspace,
         );
     };
+    let narrow = snapshot.narrowed()?;
+    let inner = narrower(&narrow, snapshot);
+    distance_over(alloc, inner, source, target, team, values, size, workspace)
+}
+
+/// The distance from `source` to `target` in each network from whose snapshot this one is narrowed, with values of no node, over a ring of so many
+/// lists; the workspace gets what the search leaves.
+fn distance_over<T: Team>(
+    alloc: Global,
+    snapshot: &Snapshot,
+    source: u32,
+    target: u32,
+    team: &T,
+    values: Tentative,
+    size: u32,
+    workspace: &mut Workspace,
+) -> Result<Option<u64>, RowError>
+    requires blank { values ≡ replicate (snapshot.now.nodes + 1) None }
+    requires source { (1 ≤ source) × (source ≤ snapshot.now.nodes) }
+    requires target { (1 ≤ target) × (target ≤ snapshot.now.nodes) }
+    requires some { 1 ≤ size }
+    requires few { size ≤ most_lists }
+    ensures distance { IfOk result (λ distance. (net : Net) → IsNarrowedOf net snapshot.now → IsDistance net source target distance) }
+{
     let ring = workspace.take_ring(alloc, snapshot.delta(), size)?;
     let mut remembered = workspace.take_remembered(alloc, snapshot.nodes() as usize + 1)?;
     let frontier = LazyRing::new(alloc, values, ring);

@@ -1,4 +1,4 @@
-//! Whether a change of some arcs leaves a row as it is, by the legs of the nodes that changed alone.
+//! Whether a change of some arcs leaves a row as it is, judged only by the legs of the nodes that changed.
 
 ghost use Rattle.std.specs.Prelude.{◌≡◌, ℕ, ◌+◌, ◌≤◌, Some, IfSome, unwrap_or};
 ghost use Rattle.std.specs.Bool.{OnTrue};
@@ -11,7 +11,7 @@ use crate::distances::Distances;
 use crate::repairing::{has_leg, is_sum};
 use snapshot::{Leg, Part, Snapshot};
 
-/// Whether the node still has the leg, or that is not tight.
+/// Whether the node still has the leg, or the leg is not tight.
 #[inline(always)]
 fn is_there(after: &Snapshot, row: &Distances, node: u32, value: u64, leg: &Leg) -> bool
     ensures { OnTrue result (distance_at row.now leg.now.head ≡ Some (value + leg.now.length) → HasLeg after.now node leg.now) }
@@ -25,7 +25,7 @@ fn is_there(after: &Snapshot, row: &Distances, node: u32, value: u64, leg: &Leg)
     true
 }
 
-/// Whether the node still has the tight ones of these legs, which it had when it had this distance.
+/// Whether the node still has those of these legs that are tight. It had all of them when it had this distance.
 #[inline(always)]
 fn are_there(after: &Snapshot, row: &Distances, node: u32, value: u64, legs: &[Leg]) -> bool
     ensures { OnTrue result (AreThere after.now row.now node value legs.now) }
@@ -97,8 +97,8 @@ fn is_node_untouched(before: &Snapshot, after: &Snapshot, row: &Distances, node:
 /// Whether the change of some nodes' legs leaves the row of `source` as it is: then it is the row of the new network too. It takes no memory, and time for
 /// the legs of these nodes.
 ///
-/// A row stays where each tight leg is still there, so that its distances are still lengths of walks, and no leg leads to less, so that no walk is shorter:
-/// the conditions by which least distances are known (Ahuja, Magnanti and Orlin, Network Flows, 5.2).
+/// A row stays if each tight leg is still there, so that its distances are still lengths of walks, and if no leg leads to less, so that no walk is shorter:
+/// the conditions by which shortest distances are known (Ahuja, Magnanti and Orlin, Network Flows, 5.2).
 fn is_untouched(
     before: &Snapshot,
     after: &Snapshot,
@@ -122,7 +122,7 @@ fn is_untouched(
     true
 }
 
-/// A share of the row of `source` before a change of some nodes' legs, where it is the row after the change too, and a share is had.
+/// A share of the row of `source` before a change of some nodes' legs, if it is the row after the change too, and if a share can be made.
 pub(crate) fn untouched_row(
     before: &Snapshot,
     after: &Snapshot,

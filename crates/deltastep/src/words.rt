@@ -7,10 +7,10 @@ ghost use Rattle.deltastep.specs.Words.{distance_of_short, distance_of_word, dis
 use crate::distances::{NO_WALK, RowError};
 use std::alloc::Global;
 
-/// The word of 4 bytes that stands for "no walk leads there".
+/// The word of 4 bytes that means "no walk leads there".
 const NO_SHORT_WALK: u32 = u32::MAX;
 
-/// The words of a row, one a node: of 4 bytes where each least length is below 2^32 - 1, else of 8.
+/// The words of a row, one for each node: of 4 bytes if each least length is below 2^32 - 1, otherwise of 8.
 #[derive(Debug, Drop)]
 pub(crate) enum Words {
     Short(Vec<u32>),
@@ -18,7 +18,7 @@ pub(crate) enum Words {
 }
 
 impl Words {
-    /// The distances that these words say, in words of 4 bytes, where they fit and memory is there for them.
+    /// The distances of these words, in words of 4 bytes if they fit and there is memory.
     pub(crate) fn new(words: Vec<u64>) -> Words
         ensures { distances_of result ≡ map distance_of_word words.items }
     {
@@ -28,7 +28,7 @@ impl Words {
         }
     }
 
-    /// What they say of a node: nothing where no walk leads there, or where there is no such node.
+    /// What the words say of a node: nothing if no walk leads there, or if there is no such node.
     pub(crate) fn get(&self, node: u64) -> Option<u64>
         ensures { result ≡ distance_at (distances_of self.now) node }
     {
@@ -38,7 +38,7 @@ impl Words {
         }
     }
 
-    /// The words of 4 bytes, where it is kept in such.
+    /// The words of 4 bytes, if the row is kept in such words.
     pub(crate) fn short(&self) -> Option<&[u32]>
         ensures { IfSome result (λ words. distances_of self.now ≡ map distance_of_short words.now) }
     {
@@ -48,7 +48,7 @@ impl Words {
         }
     }
 
-    /// The same distances in words of 8 bytes. The one error is want of memory.
+    /// The same distances in words of 8 bytes. The only error is lack of memory.
     pub(crate) fn to_long(&self) -> Result<Vec<u64>, RowError>
         ensures { IfOk result (λ long. map distance_of_word long.items ≡ distances_of self.now) }
     {
@@ -108,7 +108,7 @@ fn long_of(word: u32) -> u64
     u64::from(word)
 }
 
-/// The same distances in words of 4 bytes, where they fit and memory is there.
+/// The same distances in words of 4 bytes, if they fit and there is memory.
 fn shortened(alloc: Global, words: &[u64]) -> Option<Vec<u32>>
     ensures { IfSome result (λ short. map distance_of_short short.items ≡ map distance_of_word words.now) }
 {

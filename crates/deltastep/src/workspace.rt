@@ -11,12 +11,13 @@ use frontier::{EntryRing, Remembered};
 use relax::Tentative;
 use std::alloc::Global;
 
-/// So many places a list of a ring may have, whatever the network.
+/// Any list of a ring may have so many places, whatever the network.
 const FEW_PLACES: usize = 8;
 
-/// The memory that a search takes beside its row, left to the next search, of the same snapshot or another: what does not suit that is made
-/// anew, such as a ring after a search that was led to its target, which leaves a queue in its place. It takes none before a search has left some, and then at most 27 bytes a node: 1 to 17, and 24 to 152 a
-/// list, with a ring, and 14 to 27, 24 a list, and what these lists hold, with a queue; after a search for one distance 8 bytes a node more, and 4 for each node that any of them reached.
+/// The memory that a search needs beside its row, left for the next search, of the same snapshot or another. What does not suit that search is made anew,
+/// such as a ring after a search that was led to its target, which leaves a queue in its place. It takes no memory before a search has left some. After
+/// that it takes at most 27 bytes a node: with a ring 1 to 17, and 24 to 152 a list; with a queue 14 to 27, 24 a list, and what these lists hold. After a
+/// search for one distance it takes 8 bytes a node more, and 4 for each node that any of them reached.
 #[derive(Drop)]
 pub struct Workspace {
     ring: Option<EntryRing>,
@@ -25,7 +26,7 @@ pub struct Workspace {
     values: Option<Tentative>,
 }
 
-/// The queue that was left, if there is one, no node is queued, a node of value 0 fits, its buckets are of this width, and as many fit.
+/// The queue that was left, if there is one, no node is queued, a node of value 0 fits, its buckets have this width, and as many fit.
 fn fresh<Q: BucketQueue + Drop>(left: Option<Q>, delta: u32, size: u32) -> Option<Q>
     ensures empty { IfSome result (λ q. Q.entries q ≡ map.empty) }
     ensures first { IfSome result (λ q. Q.accepts q 0) }
@@ -53,7 +54,7 @@ impl Workspace {
         }
     }
 
-    /// A ring of no entry, of buckets of this width: the one that was left, where it is so and has as many lists, else a new one.
+    /// An empty ring of buckets of this width: the one that was left, if it is such a ring with as many lists, otherwise a new one.
     pub(crate) fn take_ring(
         &mut self,
         alloc: Global,
@@ -74,7 +75,7 @@ impl Workspace {
         Ok(ring)
     }
 
-    /// A queue of no node, of buckets of this width: the one that was left, where it is so and has as many lists, else a new one.
+    /// An empty queue of buckets of this width: the one that was left, if it is such a queue with as many lists, otherwise a new one.
     pub(crate) fn take_queue(
         &mut self,
         alloc: Global,
@@ -96,7 +97,7 @@ impl Workspace {
         Ok(buckets)
     }
 
-    /// A memory of no node, of the numbers below the limit: the one that was left, where it has that limit, else a new one.
+    /// An empty memory of nodes below the limit: the one that was left, if it has that limit, otherwise a new one.
     pub(crate) fn take_remembered(
         &mut self,
         alloc: Global,
@@ -113,8 +114,8 @@ impl Workspace {
         Ok(Remembered::new(alloc, limit)?)
     }
 
-    /// Values for so many nodes, of which no node has one: those that were left, where they are as many, else new ones, which note the nodes
-    /// that get one.
+    /// Values for so many nodes, of which none has one: those that were left, if they have as many places, otherwise new ones, which note the nodes that
+    /// get a value.
     pub(crate) fn take_values(&mut self, alloc: Global, nodes: u32) -> Result<Tentative, RowError>
         ensures blank { IfOk result (λ values. values ≡ replicate (nodes + 1) None) }
     {
@@ -127,7 +128,7 @@ impl Workspace {
         Ok(values)
     }
 
-    /// Keeps the values of a search for the next one, once all are taken away.
+    /// Keeps the values of a search for the next one, and removes them all.
     pub(crate) fn keep_values(&mut self, values: Tentative)
         ensures { self.new.values ≡ Some (replicate (length values) None) }
     {
@@ -136,7 +137,7 @@ impl Workspace {
         self.values = Some(values);
     }
 
-    /// Keeps the ring of a search of so many nodes, for the next one, in place of a queue, unless it has room for more entries than there are nodes, and a
+    /// Keeps the ring of a search over so many nodes for the next one, in place of a queue, unless it has room for more entries than there are nodes, and a
     /// few a list.
     pub(crate) fn keep_ring(&mut self, ring: EntryRing, nodes: u32)
         ensures remembered { self.new.remembered ≡ self.old.remembered }

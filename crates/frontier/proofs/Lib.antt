@@ -1,3 +1,4 @@
+pub mod Bags
 pub mod EntryLists
 pub mod Flags
 pub mod Live

@@ -14,7 +14,7 @@ use Rattle.buckets.specs.Lists.{has_node}
 use Rattle.buckets.specs.Queue.{Entries, bucket, outside, is_in_bucket}
 use Rattle.buckets.proofs.Ringed.{mod_apart}
 use Rattle.buckets.proofs.Tables.{tied, same_entries, get-insert_same, get-insert_other}
-use Rattle.buckets.proofs.Taken.{get_kept, has_node-bucket, value_in, empty_from_nothing}
+use Rattle.buckets.proofs.Taken.{get_kept, has_node-bucket, left_outside, value_in, without-bucket, empty_from_nothing}
 use Rattle.frontier.specs.Entries.{Lists, entries_at, AreInPlace, IsAdded, TakesFirst}
 use Rattle.frontier.specs.Frontier.{TakesAny}
 use Rattle.frontier.specs.Live.{AreEntriesOf, are_once, is_at_most, is_live, is_queued, is_same, live_nodes, queued, values_from, values_of}
@@ -22,14 +22,14 @@ use Rattle.frontier.proofs.EntryLists.{Contains-none, member_added}
 
 -- ---- tests
 
-both : (a b : Bool) → (a && b) ≡ true → (a ≡ true) × (b ≡ true)
+pub both : (a b : Bool) → (a && b) ≡ true → (a ≡ true) × (b ≡ true)
 both true b e = (refl, e)
 both false b e = absurd (let absurdity : ⊥ = cc in absurdity)
 
 and_true : (a b : Bool) → a ≡ true → b ≡ true → (a && b) ≡ true
 and_true a b e f = ap (λ t. t && b) e ∙ f
 
-not_true : (a : Bool) → not a ≡ true → a ≡ false
+pub not_true : (a : Bool) → not a ≡ true → a ≡ false
 not_true true e = absurd (let absurdity : ⊥ = cc in absurdity)
 not_true false e = refl
 
@@ -37,22 +37,22 @@ no_true : (a : Bool) → (a ≡ true → ⊥) → a ≡ false
 no_true true h = absurd (h refl)
 no_true false h = refl
 
-same_entry : (a b : ℕ × ℕ) → is_same a b ≡ true → a ≡ b
+pub same_entry : (a b : ℕ × ℕ) → is_same a b ≡ true → a ≡ b
 same_entry a b e =
     let parts = both (a.0 == b.0) (a.1 == b.1) e in
     let p : a.0 ≡ b.0 = eqb-true a.0 b.0 parts.0 in
     let q : a.1 ≡ b.1 = eqb-true a.1 b.1 parts.1 in
     λ i. (p i, q i)
 
-is_same-of : (a b : ℕ × ℕ) → a.0 ≡ b.0 → a.1 ≡ b.1 → is_same a b ≡ true
+pub is_same-of : (a b : ℕ × ℕ) → a.0 ≡ b.0 → a.1 ≡ b.1 → is_same a b ≡ true
 is_same-of a b p q = and_true (a.0 == b.0) (a.1 == b.1) (eq-eqb a.0 b.0 p) (eq-eqb a.1 b.1 q)
 
-any_here : (xs : List (ℕ × ℕ)) (e : ℕ × ℕ) → Contains xs e → list_any (is_same e) xs ≡ true
+pub any_here : (xs : List (ℕ × ℕ)) (e : ℕ × ℕ) → Contains xs e → list_any (is_same e) xs ≡ true
 any_here [] e c = absurd (Contains-none e c)
 any_here (x ∷ xs) e (zero, lt, is) = or_left (is_same e x) (list_any (is_same e) xs) (is_same-of e x (ap (λ (z : ℕ × ℕ). z.0) (sym is)) (ap (λ (z : ℕ × ℕ). z.1) (sym is)))
 any_here (x ∷ xs) e (suc k, lt, is) = or_right (is_same e x) (list_any (is_same e) xs) (any_here xs e (k, omega arith, is))
 
-here_any : (xs : List (ℕ × ℕ)) (e : ℕ × ℕ) → list_any (is_same e) xs ≡ true → Contains xs e
+pub here_any : (xs : List (ℕ × ℕ)) (e : ℕ × ℕ) → list_any (is_same e) xs ≡ true → Contains xs e
 here_any xs e h = Contains-from_any (λ a b f. same_entry a b f) e xs h
 
 Contains-first : {X : Type 0} (x : X) (xs : List X) → Contains (x ∷ xs) x
@@ -61,7 +61,7 @@ Contains-first x xs = (0, omega arith, refl)
 Contains-later : {X : Type 0} (x : X) (xs : List X) (y : X) → Contains xs y → Contains (x ∷ xs) y
 Contains-later x xs y (k, within, e) = (suc k, omega arith, e)
 
-same_option : (a b : Option ℕ) → ((x : ℕ) → a ≡ Some x → b ≡ Some x) → ((x : ℕ) → b ≡ Some x → a ≡ Some x) → a ≡ b
+pub same_option : (a b : Option ℕ) → ((x : ℕ) → a ≡ Some x → b ≡ Some x) → ((x : ℕ) → b ≡ Some x → a ≡ Some x) → a ≡ b
 same_option None None f g = refl
 same_option None (Some y) f g = g y refl
 same_option (Some x) b f g = sym (f x refl)
@@ -80,7 +80,7 @@ find-at first q zero (Some v ∷ t) e = ap (λ b. cond b (Some v) (find nat_cmp 
 find-at first q (suc k) (None ∷ t) e = find-at (suc first) q k t (omega arith)
 find-at first q (suc k) (Some v ∷ t) e = ap (λ b. cond b (Some v) (find nat_cmp q (values_from (suc first) t))) (tied q first false (ne_eqb q first (λ same. omega arith))) ∙ find-at (suc first) q k t (omega arith)
 
-get-values_of : (t : List (Option ℕ)) (q : ℕ) → get (values_of t) q ≡ value_at t q
+pub get-values_of : (t : List (Option ℕ)) (q : ℕ) → get (values_of t) q ≡ value_at t q
 unfolding values_of
 get-values_of t q = get-from_entries nat_cmp_total (values_from 0 t) q ∙ find-at 0 q q t (omega arith)
 
@@ -115,7 +115,7 @@ queued_get width lists t q x has c =
 
 -- ---- each once
 
-once-push : (xs : List (ℕ × ℕ)) (e : ℕ × ℕ) → are_once xs ≡ true → (Contains xs e → ⊥) → are_once (xs ++ e ∷ []) ≡ true
+pub once-push : (xs : List (ℕ × ℕ)) (e : ℕ × ℕ) → are_once xs ≡ true → (Contains xs e → ⊥) → are_once (xs ++ e ∷ []) ≡ true
 once-push [] e h lone = refl
 once-push (x ∷ xs) e h lone =
     let parts = both (not (list_any (is_same x) xs)) (are_once xs) h in
@@ -133,10 +133,10 @@ value_of_live : (v : ℕ) (o : Option ℕ) → option_map_or (λ x. v == x) o fa
 value_of_live v None e = absurd (let absurdity : ⊥ = cc in absurdity)
 value_of_live v (Some x) e = ap (λ n. Some n) (sym (eqb-true v x e))
 
-live_has : (t : List (Option ℕ)) (e : ℕ × ℕ) → is_live t e ≡ true → value_at t e.0 ≡ Some e.1
+pub live_has : (t : List (Option ℕ)) (e : ℕ × ℕ) → is_live t e ≡ true → value_at t e.0 ≡ Some e.1
 live_has t e h = value_of_live e.1 (value_at t e.0) h
 
-has_live : (t : List (Option ℕ)) (e : ℕ × ℕ) → value_at t e.0 ≡ Some e.1 → is_live t e ≡ true
+pub has_live : (t : List (Option ℕ)) (e : ℕ × ℕ) → value_at t e.0 ≡ Some e.1 → is_live t e ≡ true
 has_live t e h = ap (λ o. option_map_or (λ x. e.1 == x) o false) h ∙ eq-eqb e.1 e.1 refl
 
 -- a live entry of a node
@@ -203,77 +203,12 @@ live_once t (x ∷ xs) h =
 
 -- ---- a value is lowered
 
-at_most_of : (v : ℕ) (o : Option ℕ) → option_map_or (λ x. nat_le x v) o false ≡ true → (x : ℕ) × (o ≡ Some x) × (x ≤ v)
+pub at_most_of : (v : ℕ) (o : Option ℕ) → option_map_or (λ x. nat_le x v) o false ≡ true → (x : ℕ) × (o ≡ Some x) × (x ≤ v)
 at_most_of v None e = absurd (let absurdity : ⊥ = cc in absurdity)
 at_most_of v (Some x) e = (x, refl, leb-true x v e)
 
-of_at_most : (v : ℕ) (o : Option ℕ) (x : ℕ) → o ≡ Some x → x ≤ v → option_map_or (λ x. nat_le x v) o false ≡ true
+pub of_at_most : (v : ℕ) (o : Option ℕ) (x : ℕ) → o ≡ Some x → x ≤ v → option_map_or (λ x. nat_le x v) o false ≡ true
 of_at_most v o x is le = ap (λ p. option_map_or (λ x. nat_le x v) p false) is ∙ le-leb x v le
-
-module _ (width : ℕ) (old new : Lists) (t : List (Option ℕ)) (node value : ℕ) (within : node < length t) (size : length new ≡ length old) (added : IsAdded old new ((value / width) % length old) (node, value)) where
-  at_node : (q : ℕ) → q ≡ node → value_at (set t node (Some value)) q ≡ Some value
-  at_node q e = ap (value_at (set t node (Some value))) e ∙ get_or-set_same t node (Some value) None within
-
-  at_other : (q : ℕ) → q ≢ node → value_at (set t node (Some value)) q ≡ value_at t q
-  at_other q ne = get_or-set_other t node q (Some value) None ne
-
-  list_here : Contains (entries_at new ((value / width) % length old)) (node, value)
-  list_here = subst (λ (l : List (ℕ × ℕ)). Contains l (node, value)) (sym added.here) (Contains-push (entries_at old ((value / width) % length old)) (node, value))
-
-  list_kept : (p : ℕ) (e : ℕ × ℕ) → Contains (entries_at old p) e → Contains (entries_at new p) e
-  list_kept p e c = elim (cases_eq p ((value / width) % length old)) as (λ _. Contains (entries_at new p) e) [
-    | inl is ↦ subst (λ (l : List (ℕ × ℕ)). Contains l e) (sym (ap (entries_at new) is ∙ added.here)) (Contains-append_left (entries_at old ((value / width) % length old)) ((node, value) ∷ []) e (subst (λ r. Contains (entries_at old r) e) is c))
-    | inr ne ↦ subst (λ (l : List (ℕ × ℕ)). Contains l e) (sym (added.others p ne)) c
-  ]
-
-  pub queued-lowered : queued width new (set t node (Some value)) ≡ insert (queued width old t) node value
-  queued-lowered = same_entries _ _ (λ q. elim (cases_eq q node) as (λ _. get (queued width new (set t node (Some value))) q ≡ get (insert (queued width old t) node value) q) [
-    | inl e ↦
-        queued_get width new (set t node (Some value)) q value (at_node q e)
-        (subst (λ n. Contains (entries_at new ((value / width) % n)) (q, value)) (sym size) (subst (λ z. Contains (entries_at new ((value / width) % length old)) (z, value)) (sym e) list_here))
-        ∙ sym (get-insert_same (queued width old t) node value q e)
-    | inr ne ↦
-        same_option _ _
-        (λ x e.
-        let had = queued_has width new (set t node (Some value)) q x e in
-        let here : Contains (entries_at new ((x / width) % length old)) (q, x) = subst (λ n. Contains (entries_at new ((x / width) % n)) (q, x)) size had.1 in
-        let was : Contains (entries_at old ((x / width) % length old)) (q, x) =
-        elim (member_added width 0 old new ((value / width) % length old) (node, value) added ((x / width) % length old) (q, x) here) as (λ _. Contains (entries_at old ((x / width) % length old)) (q, x)) [
-          | inl was ↦ was
-          | inr is ↦ absurd (ne (let same : node ≡ q = ap (λ (z : ℕ × ℕ). z.0) is.1 in sym same))
-        ] in
-        queued_get width old t q x (sym (at_other q ne) ∙ had.0) was)
-        (λ x e.
-        let had = queued_has width old t q x e in
-        queued_get width new (set t node (Some value)) q x (at_other q ne ∙ had.0) (subst (λ n. Contains (entries_at new ((x / width) % n)) (q, x)) (sym size) (list_kept ((x / width) % length old) (q, x) had.1)))
-        ∙ sym (get-insert_other (queued width old t) node value q ne)
-  ])
-
-  pub AreEntriesOf-lowered : AreEntriesOf t old → 1 ≤ node → ((x : ℕ) → value_at t node ≡ Some x → value < x) → AreEntriesOf (set t node (Some value)) new
-  AreEntriesOf-lowered was low lower = record {
-    node = λ p e c. elim (member_added width 0 old new ((value / width) % length old) (node, value) added p e c) as (λ _. 1 ≤ e.0) [
-      | inl there ↦ was.node p e there
-      | inr is ↦ subst (λ (z : ℕ × ℕ). 1 ≤ z.0) is.1 low
-    ];
-    above = λ p e c. elim (member_added width 0 old new ((value / width) % length old) (node, value) added p e c) as (λ _. is_at_most (set t node (Some value)) e ≡ true) [
-      | inl there ↦
-          let had = at_most_of e.1 (value_at t e.0) (was.above p e there) in
-          elim (cases_eq e.0 node) as (λ _. is_at_most (set t node (Some value)) e ≡ true) [
-            | inl is ↦ of_at_most e.1 _ value (at_node e.0 is) (let less : value < had.0 = lower had.0 (ap (value_at t) (sym is) ∙ had.1) in omega (arith, less, had.2))
-            | inr ne ↦ of_at_most e.1 _ had.0 (at_other e.0 ne ∙ had.1) had.2
-          ]
-      | inr is ↦ subst (λ (z : ℕ × ℕ). is_at_most (set t node (Some value)) z ≡ true) is.1 (of_at_most value _ value (at_node node refl) (omega arith))
-    ];
-    once = λ p. elim (cases_eq p ((value / width) % length old)) as (λ _. are_once (entries_at new p) ≡ true) [
-      | inl is ↦
-          ap are_once (ap (entries_at new) is ∙ added.here)
-          ∙ once-push (entries_at old ((value / width) % length old)) (node, value) (was.once ((value / width) % length old)) (λ c.
-          let had = at_most_of value (value_at t node) (was.above ((value / width) % length old) (node, value) c) in
-          let less : value < had.0 = lower had.0 had.1 in
-          omega (arith, less, had.2))
-      | inr ne ↦ ap are_once (added.others p ne) ∙ was.once p
-    ];
-  }
 
 -- ---- nothing is lowered, or there is nothing
 pub AreEntriesOf-same : (t : List (Option ℕ)) (old new : Lists) → ((p : ℕ) → entries_at new p ≡ entries_at old p) → AreEntriesOf t old → AreEntriesOf t new
@@ -305,10 +240,44 @@ entry_nodes t lists was p e c =
     let had = at_most_of e.1 (value_at t e.0) (was.above p e c) in
     (was.node p e c, value_within t e.0 had.0 had.1)
 
+-- ---- a bucket of a map
+module _ (width b : ℕ) (m : Entries) where
+  pub in_bucket : (q x : ℕ) → get m q ≡ Some x → x / width ≡ b → is_in_bucket width b (get m q) ≡ true
+  in_bucket q x e is = ap (is_in_bucket width b) e ∙ eq-eqb (x / width) b is
+
+  pub key_of : (q : ℕ) → is_in_bucket width b (get m q) ≡ true → Contains (keys (bucket width b m)) q
+  key_of q h = Contains-from_any (λ x y e. eqb-true x y e) q (keys (bucket width b m)) (has_node-bucket width b m q ∙ h)
+
+  pub of_key : (q : ℕ) → Contains (keys (bucket width b m)) q → is_in_bucket width b (get m q) ≡ true
+  of_key q c = sym (has_node-bucket width b m q) ∙ list_any-from_Contains nat_eq_equiv q (keys (bucket width b m)) c
+
+  get-outside : (q : ℕ) → get (outside width b m) q ≡ cond (not (is_in_bucket width b (get m q))) (get m q) None
+  get-outside q = get_kept m (λ node. not (is_in_bucket width b (get m node))) q
+
+  pub outside_kept : (q x : ℕ) → get m q ≡ Some x → x / width ≢ b → get (outside width b m) q ≡ Some x
+  outside_kept q x e ne = get-outside q ∙ (ap (λ c. cond (not c) (get m q) None) (ap (is_in_bucket width b) e ∙ ne_eqb (x / width) b ne) ∙ e)
+
+  pub outside_left : (q x : ℕ) → get (outside width b m) q ≡ Some x → (get m q ≡ Some x) × (x / width ≢ b)
+  outside_left q x e = left_outside width b m q x (subst (λ (n : Entries). get n q ≡ Some x) (sym (without-bucket width b m)) e)
+
+  -- a map that has just what another one has in other buckets
+  pub rest_is : (rest : Entries) → ((q x : ℕ) → get rest q ≡ Some x → (get m q ≡ Some x) × (x / width ≢ b)) → ((q x : ℕ) → get m q ≡ Some x → x / width ≢ b → get rest q ≡ Some x) → rest ≡ outside width b m
+  rest_is rest left kept = same_entries _ _ (λ q. same_option _ _
+      (λ x e.
+      let was_there = left q x e in
+      let out : is_in_bucket width b (get m q) ≡ false = ap (is_in_bucket width b) was_there.0 ∙ ne_eqb (x / width) b was_there.1 in
+      get-outside q ∙ (ap (λ c. cond (not c) (get m q) None) out ∙ was_there.0))
+      (λ x e.
+      let got : cond (not (is_in_bucket width b (get m q))) (get m q) None ≡ Some x = sym (get-outside q) ∙ e in
+      elim (is_in_bucket width b (get m q)) as (λ c. is_in_bucket width b (get m q) ≡ c → cond (not c) (get m q) None ≡ Some x → get rest q ≡ Some x) [
+        | true ↦ λ _ wrong. absurd (let absurdity : ⊥ = cc in absurdity)
+        | false ↦ λ out has. kept q x has (λ is. let yes : is_in_bucket width b (get m q) ≡ true = in_bucket q x has is in let absurdity : ⊥ = cc in absurdity)
+      ] refl got))
+
 -- ---- a list is taken
 module _ (width last b : ℕ) (old new : Lists) (t : List (Option ℕ)) (entries : List (ℕ × ℕ)) (size : length new ≡ length old) (within : AreInPlace width last old) (was : AreEntriesOf t old) (far : last ≤ b) (takes : TakesFirst width old new b entries) where
   -- all but the taken ones stay
-  stays : (p : ℕ) (e : ℕ × ℕ) → Contains (entries_at new p) e → Contains (entries_at old p) e × (p ≢ b % length old)
+  pub stays : (p : ℕ) (e : ℕ × ℕ) → Contains (entries_at new p) e → Contains (entries_at old p) e × (p ≢ b % length old)
   stays p e c = elim (cases_eq p (b % length old)) as (λ _. Contains (entries_at old p) e × (p ≢ b % length old)) [
     | inl is ↦ absurd (Contains-none e (subst (λ (l : List (ℕ × ℕ)). Contains l e) (ap (entries_at new) is ∙ takes.emptied) c))
     | inr ne ↦ (subst (λ (l : List (ℕ × ℕ)). Contains l e) (takes.others p ne) c, ne)
@@ -355,38 +324,13 @@ module _ (width last b : ℕ) (old new : Lists) (t : List (Option ℕ)) (entries
       let here : Contains (entries_at old ((live.value / width) % length old)) (q, live.value) = subst (λ (l : List (ℕ × ℕ)). Contains l (q, live.value)) (takes.taken ∙ ap (λ k. entries_at old (k % length old)) (sym is)) live.member in
       (live.value, queued_get width old t q live.value live.has here, is)
 
-  in_bucket : (q x : ℕ) → get (queued width old t) q ≡ Some x → x / width ≡ b → is_in_bucket width b (get (queued width old t) q) ≡ true
-  in_bucket q x e is = ap (is_in_bucket width b) e ∙ eq-eqb (x / width) b is
-
-  key_of : (q : ℕ) → is_in_bucket width b (get (queued width old t) q) ≡ true → Contains (keys (bucket width b (queued width old t))) q
-  key_of q h = Contains-from_any (λ x y e. eqb-true x y e) q (keys (bucket width b (queued width old t))) (has_node-bucket width b (queued width old t) q ∙ h)
-
-  of_key : (q : ℕ) → Contains (keys (bucket width b (queued width old t))) q → is_in_bucket width b (get (queued width old t) q) ≡ true
-  of_key q c = sym (has_node-bucket width b (queued width old t) q) ∙ list_any-from_Contains nat_eq_equiv q (keys (bucket width b (queued width old t))) c
-
-  get-outside : (q : ℕ) → get (outside width b (queued width old t)) q ≡ cond (not (is_in_bucket width b (get (queued width old t) q))) (get (queued width old t) q) None
-  get-outside q = get_kept (queued width old t) (λ node. not (is_in_bucket width b (get (queued width old t) node))) q
-
-  rest_is : queued width new t ≡ outside width b (queued width old t)
-  rest_is = same_entries _ _ (λ q. same_option _ _
-      (λ x e.
-      let was_there = left q x e in
-      let out : is_in_bucket width b (get (queued width old t) q) ≡ false = ap (is_in_bucket width b) was_there.0 ∙ ne_eqb (x / width) b was_there.1 in
-      get-outside q ∙ (ap (λ c. cond (not c) (get (queued width old t) q) None) out ∙ was_there.0))
-      (λ x e.
-      let got : cond (not (is_in_bucket width b (get (queued width old t) q))) (get (queued width old t) q) None ≡ Some x = sym (get-outside q) ∙ e in
-      elim (is_in_bucket width b (get (queued width old t) q)) as (λ c. is_in_bucket width b (get (queued width old t) q) ≡ c → cond (not c) (get (queued width old t) q) None ≡ Some x → get (queued width new t) q ≡ Some x) [
-        | true ↦ λ _ wrong. absurd (let absurdity : ⊥ = cc in absurdity)
-        | false ↦ λ out has. kept q x has (λ is. let yes : is_in_bucket width b (get (queued width old t) q) ≡ true = in_bucket q x has is in let absurdity : ⊥ = cc in absurdity)
-      ] refl got))
-
   pub TakesAny-taken : 0 < length (live_nodes t entries) → TakesAny width (queued width old t) b (live_nodes t entries) (queued width new t)
   TakesAny-taken some = record {
     some_node = some;
-    nodes = λ u. (λ c. let has = there_live u c in key_of u (in_bucket u has.0 has.1 has.2), λ c. let v = value_in width b (get (queued width old t) u) (of_key u c) in live_there u v.0 v.1 v.2);
+    nodes = λ u. (λ c. let has = there_live u c in key_of width b (queued width old t) u (in_bucket width b (queued width old t) u has.0 has.1 has.2), λ c. let v = value_in width b (get (queued width old t) u) (of_key width b (queued width old t) u c) in live_there u v.0 v.1 v.2);
     once = live_once t entries (ap are_once takes.taken ∙ was.once (b % length old));
     least = λ q v e. takes.least ((v / width) % length old) (q, v) (queued_has width old t q v e).1;
-    rest = rest_is;
+    rest = rest_is width b (queued width old t) (queued width new t) left kept;
   }
 
   -- where none of them is live, nothing changes

@@ -1,6 +1,6 @@
 //! Entries in a ring of lists, by the buckets of their values.
 
-ghost use Rattle.std.specs.Prelude.{◌≡◌, ◌≢◌, ℕ, ◌<◌, ◌≤◌, ◌/◌, ◌%◌, [], set, OnOk, OnErr, IfOk, MatchOption, length};
+ghost use Rattle.std.specs.Prelude.{◌≡◌, ◌≢◌, ℕ, ◌<◌, ◌≤◌, ◌+◌, ◌-◌, ◌/◌, ◌%◌, [], min, set, OnOk, OnErr, IfOk, MatchOption, length};
 ghost use Rattle.buckets.specs.Rings.{IsWithin};
 ghost use Rattle.std.specs.Bool.{OnTrue};
 ghost use Rattle.frontier.specs.Entries.{AreInPlace, AreMarked, IsAdded, IsFresh, TakesFirst, entries_at, entry_count};
@@ -9,7 +9,7 @@ use buckets::{Places, buckets_between, next_marked};
 use std::alloc::{AllocError, Global};
 use std::mem::swap;
 
-/// As many empty lists.
+/// This many empty lists.
 fn empty_lists(alloc: Global, size: u32) -> Result<Vec<Vec<(u32, u64)>>, AllocError>
     ensures len { IfOk result (λ lists. length lists.items ≡ size) }
     ensures empty { IfOk result (λ lists. (p : ℕ) → entries_at lists.items p ≡ []) }
@@ -21,7 +21,7 @@ fn empty_lists(alloc: Global, size: u32) -> Result<Vec<Vec<(u32, u64)>>, AllocEr
     Ok(lists)
 }
 
-/// Adds the entry at the end of the list. After want of memory each list is as it was.
+/// Adds the entry at the end of the list. If memory runs out, each list is as it was.
 #[inline(always)]
 fn push(
     lists: &mut Vec<Vec<(u32, u64)>>,
@@ -38,7 +38,7 @@ fn push(
     Ok(())
 }
 
-/// Exchanges the entries of the list for these.
+/// Swaps the entries of the list with these.
 #[inline(always)]
 fn exchange(lists: &mut Vec<Vec<(u32, u64)>>, list: usize, entries: &mut Vec<(u32, u64)>)
     requires { list < length lists.old.items }
@@ -48,9 +48,8 @@ fn exchange(lists: &mut Vec<Vec<(u32, u64)>>, list: usize, entries: &mut Vec<(u3
     swap(&mut lists[list], entries);
 }
 
-/// Entries, a node with a value each, in a ring of lists: bucket `b` has the list at the place that is the remainder of `b` by the number of
-/// lists. An entry stands where it was added until its bucket is taken. It takes 24 bytes a list, and 16 for each place of a list that was
-/// ever in use at once.
+/// Entries, each a node with a value, in a ring of lists: the list of bucket `b` is at the place `b` modulo the number of lists. An entry stays in its list
+/// until its bucket is taken. It takes 24 bytes a list, and 16 for each place of a list that was ever in use at once.
 #[derive(Drop)]
 pub struct EntryRing {
     pub(crate) delta: u32,
@@ -66,8 +65,7 @@ pub struct EntryRing {
 }
 
 impl EntryRing {
-    /// A ring of no entry, of `size` buckets in a row from bucket 0 on, each of which spans `delta` values. The error is that no memory was
-    /// given.
+    /// An empty ring, of `size` buckets in a row from bucket 0 on. Each bucket spans `delta` values. The only error is lack of memory.
     pub fn new(alloc: Global, delta: u32, size: u32) -> Result<EntryRing, AllocError>
         requires positive { 1 ≤ delta }
         requires some { 1 ≤ size }
@@ -88,7 +86,7 @@ impl EntryRing {
         })
     }
 
-    /// How many entries its lists have room for, up to the greatest number there is.
+    /// How many entries its lists have room for, up to the greatest number of the type.
     pub fn places(&self) -> usize {
         let mut places: usize = 0;
         for list in &self.lists {
@@ -97,8 +95,8 @@ impl EntryRing {
         places
     }
 
-    /// Whether a search can begin with it that asks for buckets of this width, and for so many in a row: it has no entry, bucket 0 is the first
-    /// that fits, and there are as many lists.
+    /// Whether a search that asks for buckets of this width, and for so many in a row, can begin with it: it has no entry, bucket 0 is the first that fits,
+    /// and there are as many lists.
     pub fn is_fresh(&self, delta: u32, size: u32) -> bool
         ensures { OnTrue result (IsFresh self.now.delta self.now.last self.now.lists.items delta size) }
     {
@@ -111,24 +109,28 @@ impl EntryRing {
         false
     }
 
-    /// Begins anew with bucket 0, where there is no entry.
-    fn restart(&mut self)
+    /// Begins anew with this bucket, where there is no entry.
+    pub(crate) fn begin_at(&mut self, last: u64)
         requires none { (p : ℕ) → entries_at self.old.lists.items p ≡ [] }
-        ensures fresh { IsFresh self.new.delta self.new.last self.new.lists.items self.old.delta (length self.old.lists.items) }
+        ensures last { self.new.last ≡ last }
+        ensures lists { self.new.lists ≡ self.old.lists }
+        ensures width { self.new.delta ≡ self.old.delta }
     {
-        self.last = 0;
-        self.first = 0;
+        self.first = (last % self.size() as u64) as usize;
+        self.last = last;
     }
 
-    /// Takes out all entries, in exchange for a list that is empty, and begins anew with bucket 0. It takes time for the lists that have entries.
+    /// Takes out all entries, in exchange for an empty list, and begins anew with bucket 0. It takes time for the lists that have entries.
     pub fn empty(&mut self, spare: &mut Vec<(u32, u64)>)
         requires none { spare.old.items ≡ [] }
         ensures fresh { IsFresh self.new.delta self.new.last self.new.lists.items self.old.delta (length self.old.lists.items) }
+        ensures size { length self.new.lists.items ≡ length self.old.lists.items }
+        ensures spare { spare.new.items ≡ [] }
     {
         'lists: while let Some(_bucket) = self.take(spare) {
             spare.clear();
         }
-        self.restart();
+        self.begin_at(0);
     }
 
     /// How many values a bucket spans.
@@ -148,19 +150,44 @@ impl EntryRing {
         self.lists.len()
     }
 
+    /// The bucket that was taken last.
+    #[inline(always)]
+    pub(crate) fn last(&self) -> u64
+        ensures { result ≡ self.now.last }
+    {
+        self.last
+    }
+
+    /// How many buckets on from the last one that was taken that of the value is.
+    #[inline(always)]
+    pub(crate) fn ahead(&self, value: u64) -> u64
+        requires { self.now.last ≤ value / self.now.delta }
+        ensures { result ≡ value / self.now.delta - self.now.last }
+    {
+        buckets_between(self.delta, self.last, value)
+    }
+
+    /// The first bucket that is beyond its lists, or the greatest number there is.
+    #[inline(always)]
+    pub(crate) fn reach(&self) -> u64
+        ensures { result ≡ min (self.now.last + length self.now.lists.items) u64.MAX }
+    {
+        self.last.saturating_add(self.size() as u64)
+    }
+
     /// The place of the list of a value that fits.
     #[inline(always)]
     fn place(&self, value: u64) -> usize
         requires { IsWithin self.now.last (length self.now.lists.items) (value / self.now.delta) }
         ensures { result ≡ (value / self.now.delta) % length self.now.lists.items }
     {
-        let ahead = buckets_between(self.delta, self.last, value) as usize;
+        let ahead = self.ahead(value) as usize;
         let place = self.first + ahead;
         let size = self.size();
         if place < size { place } else { place - size }
     }
 
-    /// Adds an entry, in O(1) amortized. After want of memory the entries are as they were.
+    /// Adds an entry, in amortized O(1). If memory runs out, the entries are as they were.
     #[inline(always)]
     pub fn add(&mut self, node: u32, value: u64) -> Result<(), AllocError>
         requires fits { IsWithin self.old.last (length self.old.lists.items) (value / self.old.delta) }
@@ -176,8 +203,8 @@ impl EntryRing {
         Ok(())
     }
 
-    /// Takes all entries of the least bucket that has any, in exchange for a list that is empty, and gives the bucket's number; nothing where
-    /// there is no entry. From then on the values of as many buckets fit as there are lists, from that bucket on.
+    /// Takes all entries of the least bucket that has any, in exchange for an empty list, and returns the bucket's number; nothing if there is no entry.
+    /// From then on the values of as many buckets fit as there are lists, beginning with that bucket.
     #[inline(always)]
     pub fn take(&mut self, entries: &mut Vec<(u32, u64)>) -> Option<u64>
         requires none { entries.old.items ≡ [] }

@@ -7,8 +7,8 @@ ghost use Rattle.frontier.specs.Frontier.{TakesAny};
 use relax::Tentative;
 use std::alloc::AllocError;
 
-/// What a search by values keeps: the tentative value of each node that has one, and the nodes that are queued, in buckets by that value: bucket
-/// `b` has the nodes whose value has the quotient `b` by `delta`. A frontier may have a window, as a `BucketQueue` has.
+/// What a search by values keeps: the tentative value of each node that has one, and the queued nodes, in buckets by value. Bucket `b` has the nodes whose
+/// value divided by `delta` is `b`, rounded down. A frontier may have a window, as a `BucketQueue` has.
 ///
 /// After an `Err` it is not used again.
 pub trait Frontier {
@@ -36,7 +36,7 @@ pub trait Frontier {
     fn values(&self) -> &Tentative
         ensures value { result.now ≡ tentative self.now };
 
-    /// Lowers a node's value to the given one, if that is below `top` and the value so far, and queues the node. Tells whether it did.
+    /// Lowers a node's value to the given one, if that is below `top` and the present value, and queues the node. Returns whether it did.
     fn lower(&mut self, top: u64, node: u32, value: u64) -> Result<bool, AllocError>
         requires node { (1 ≤ node) × (node < length (tentative self.old)) }
         requires fits { accepts self.old value }
@@ -48,9 +48,9 @@ pub trait Frontier {
         ensures width { width self.new ≡ width self.old }
         ensures span { span self.new ≡ span self.old };
 
-    /// Takes out all nodes of the least bucket that is not empty, each once, in any order, into a list of the caller's, and gives the bucket's
-    /// number; nothing where no node is queued. What was in the list is gone. From then on all values of as many buckets fit as the window
-    /// says, from that one on.
+    /// Takes out all nodes of the least bucket that is not empty, each once and in any order, into a list of the caller's, and returns the bucket's number;
+    /// nothing if no node is queued. The earlier content of the list is lost. From then on the values of that bucket and those after it fit, as many
+    /// buckets as the window has.
     fn take_least_into(&mut self, nodes: &mut Vec<u32>) -> Result<Option<u64>, AllocError>
         ensures taken { IfOk result (λ taken. MatchOption taken (entries self.old ≡ map.empty) (λ bucket. TakesAny (width self.old) (entries self.old) bucket nodes.new.items (entries self.new))) }
         ensures none { IfOk result (λ taken. MatchOption taken (nodes.new.items ≡ []) (λ _. Unit {0})) }

@@ -1,6 +1,6 @@
 ghost use Rattle.std.specs.Prelude.{◌≤◌, ◌<◌, IsTrue, IsFalse, unwrap_or};
 
-/// Whether the value is below what is known, or below `top` where nothing is.
+/// Whether the value is below the known one, or below `top` if none is known.
 #[inline(always)]
 pub fn is_lower(known: Option<u64>, top: u64, value: u64) -> bool
     ensures lower { IsTrue result → value < unwrap_or known top }

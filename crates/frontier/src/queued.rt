@@ -1,4 +1,4 @@
-//! A frontier out of values and a bucket queue.
+//! A frontier made of values and a bucket queue.
 
 ghost use Rattle.std.specs.Prelude.{◌≡◌};
 
@@ -8,7 +8,7 @@ use buckets::BucketQueue;
 use relax::Tentative;
 use std::alloc::AllocError;
 
-/// Tentative values, and a queue that has the nodes whose legs are still to be relaxed.
+/// Tentative values, and a queue of the nodes whose legs are still to be relaxed.
 #[derive(Drop)]
 pub struct Queued<Q> {
     pub tentative: Tentative,

@@ -25,7 +25,7 @@ impl Remembered {
     ghost use Rattle.std.specs.List.{IsDistinct};
     ghost use Rattle.frontier.specs.Remembered.{remember, remember_all};
 
-    /// No node, of the numbers below the limit.
+    /// An empty list of nodes below the limit.
     pub fn new(alloc: Global, limit: usize) -> Result<Remembered, OutOfMemory>
         ensures none { IfOk result (λ remembered. remembered ≡ record { limit = limit; nodes = [] }) }
     {
@@ -50,7 +50,7 @@ impl Remembered {
         &self.nodes
     }
 
-    /// Adds a node, if it is not there.
+    /// Adds a node, unless it is there.
     #[inline(always)]
     pub fn add(&mut self, node: u32) -> Result<(), OutOfMemory>
         requires within { node < self.old.limit }
@@ -80,7 +80,7 @@ impl Remembered {
         Ok(())
     }
 
-    /// Forgets the node that was added last. Tells whether there was one.
+    /// Forgets the node that was added last. Returns whether there was one.
     #[inline(always)]
     fn forget_last(&mut self) -> bool
         ensures fewer { MatchBool result (length self.new.nodes < length self.old.nodes) (self.new.nodes ≡ []) }

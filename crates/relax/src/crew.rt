@@ -11,11 +11,11 @@ use snapshot::{Part, Snapshot};
 use std::alloc::{AllocError, Global};
 use std::thread::Threads;
 
-/// How many nodes a chunk of a crew has where nothing else is said.
+/// How many nodes a chunk of a crew has by default.
 pub const CHUNK: u32 = 4096;
 
-/// A team whose workers share the nodes of a phase: they are cut into chunks, the chunks are relaxed side by side, and their lists are
-/// put together in order. A phase of no more nodes than a chunk has is one worker's, and no thread is started for it.
+/// A team whose workers share the nodes of a phase: the nodes are cut into chunks, the chunks are relaxed side by side, and their lists are joined in
+/// order. A phase with no more nodes than a chunk has is done by one worker, and no thread is started for it.
 #[derive(Drop)]
 pub struct Crew<R> {
     permit: Permit<R>,
@@ -24,7 +24,7 @@ pub struct Crew<R> {
 }
 
 impl<R: Threads> Crew<R> {
-    /// A crew that cuts the nodes of a phase into chunks of this many.
+    /// A crew that cuts the nodes of a phase into chunks of this size.
     pub fn new(rt: &R, chunk: u32) -> Crew<R>
         requires some { 1 ≤ chunk }
         ensures chunk { result.chunk ≡ chunk }
@@ -81,7 +81,7 @@ fn in_chunks<R: Threads + Sync>(
         .collect::<Result<Vec<Vec<(u32, u64)>>, OutOfMemory>>(rt, alloc)?
 }
 
-/// How many requests the lists have together, up to the greatest number there is.
+/// How many requests the lists have together, up to the greatest number of the type.
 fn count_of(lists: &[Vec<(u32, u64)>]) -> usize {
     let mut count: usize = 0;
     for list in lists {
@@ -90,7 +90,7 @@ fn count_of(lists: &[Vec<(u32, u64)>]) -> usize {
     count
 }
 
-/// The lists one after another, with one copy of each request.
+/// The lists joined, with one copy of each request.
 fn joined(alloc: Global, lists: &[Vec<(u32, u64)>]) -> Result<Vec<(u32, u64)>, OutOfMemory>
     ensures { IfOk result (λ list. list.items ≡ flat_map (λ list. list.items) lists.now) }
 {

@@ -1,4 +1,4 @@
-//! One phase of a search: the requests that a list of nodes makes of the nodes that their arcs reach.
+//! One phase of a search: the requests that the arcs of a list of nodes make of the nodes that they reach.
 #![tactic(auto)]
 
 mod crew;

@@ -2,7 +2,7 @@ use std::marker::PhantomData;
 use std::sync::atomic::AtomicPtr;
 use std::thread::Threads;
 
-/// The permit to start threads that a runtime gave. It holds no runtime, so each thread may have it.
+/// The permit to start threads, given by a runtime. It holds no runtime, so each thread may have it.
 #[derive(Drop)]
 pub struct Permit<R> {
     from: PhantomData<AtomicPtr<R>>,

@@ -7,10 +7,10 @@ use roadnet::OutOfMemory;
 use snapshot::{Leg, Part, Snapshot};
 use std::alloc::{AllocError, Global};
 
-/// Workers that work out the requests of a phase. Each team gives the same list.
+/// Workers that compute the requests of a phase. Every team gives the same list.
 pub trait Team {
-    /// For each of the nodes in order and each of its legs of the part in order, the leg's head and the node's value plus the leg's
-    /// length. Each node is one of the network and has a value below 2^56. The one error is want of memory, for 16 bytes a leg.
+    /// For each of the nodes in order, and each of its legs of the part in order: the leg's head, and the node's value plus the leg's length. Each node is
+    /// one of the network and has a value below 2^56. The only error is lack of memory, for 16 bytes a leg.
     fn requests(
         &self,
         alloc: Global,
@@ -51,7 +51,7 @@ impl Team for Solo {
     }
 }
 
-/// How many legs of the part the nodes have, if that is below 2^64; 0 only where they have none.
+/// How many legs of the part the nodes have, if that is below 2^64; it is 0 only if they have none.
 #[inline(always)]
 fn count(snapshot: &Snapshot, nodes: &[u32], part: Part) -> usize
     ensures none { result ≡ 0 → (tentative : List (Option ℕ)) → requests_of snapshot.now nodes.now tentative part ≡ [] }

@@ -5,12 +5,12 @@ use roadnet::OutOfMemory;
 use std::alloc::Global;
 use std::marker::Model;
 
-/// The word that stands for "no value".
+/// The word that means "no value".
 const NO_VALUE: u64 = u64::MAX;
 
 /// For each node of a network the least length of a walk that a search has found so far, or nothing. It takes 8 bytes a node.
 ///
-/// One that notes the nodes that get a value, 4 bytes each, can be wiped in time for those alone.
+/// One that notes the nodes that get a value, at 4 bytes each, can be wiped in time for those nodes alone.
 #[derive(Debug, Drop)]
 pub struct Tentative {
     words: Vec<u64>,
@@ -29,7 +29,7 @@ impl Model for Tentative {
     ghost invariant = { λ t. IfSome t.noted (λ nodes. AreNoted (None ∷ map value_of_word t.words.items) nodes.items) };
 }
 
-/// What is noted, with one node more if its word says that it has no value yet; or nothing where no memory is left for it.
+/// What is noted, and one more node if its word says that it has no value yet; or nothing if there is no memory left for it.
 #[inline(always)]
 fn noted_with(noted: Option<Vec<u32>>, word: u64, node: u32) -> Option<Vec<u32>>
     ensures more { IfSome result (λ new. IfSome noted (λ old. word ≡ no_value → new.items ≡ old.items ++ node ∷ [])) }
@@ -52,7 +52,7 @@ impl Tentative {
     ghost use Rattle.relax.specs.Values.{value_at, no_value, value_of_word};
     ghost use Rattle.relax.specs.Noted.{AreNoted};
 
-    /// No value for any of the nodes 1 to `nodes`. The one error is want of memory, for 8 bytes a node.
+    /// No value for any of the nodes 1 to `nodes`. The only error is lack of memory, for 8 bytes a node.
     pub fn new(alloc: Global, nodes: u32) -> Result<Tentative, OutOfMemory>
         ensures none { IfOk result (λ tentative. tentative ≡ replicate (nodes + 1) None) }
     {
@@ -62,7 +62,7 @@ impl Tentative {
         })
     }
 
-    /// The same, where the nodes that get a value are noted, as long as there is memory for it.
+    /// The same, and the nodes that get a value are noted as long as there is memory for that.
     pub fn noting(alloc: Global, nodes: u32) -> Result<Tentative, OutOfMemory>
         ensures none { IfOk result (λ tentative. tentative ≡ replicate (nodes + 1) None) }
     {
@@ -71,7 +71,7 @@ impl Tentative {
         Ok(tentative)
     }
 
-    /// Whether it has places for the nodes 1 to `nodes`, and notes nodes, and none is noted: then none has a value.
+    /// Whether it has places for the nodes 1 to `nodes`, notes nodes, and has noted none: then no node has a value.
     pub fn is_blank(&self, nodes: u32) -> bool
         ensures { OnTrue result (self.now ≡ replicate (nodes + 1) None) }
     {
@@ -87,7 +87,7 @@ impl Tentative {
         true
     }
 
-    /// The nodes that were noted, if they are: all that have a value are among them. It takes no memory.
+    /// The noted nodes, if nodes are noted: all that have a value are among them. It takes no memory.
     pub fn noted(&self) -> Option<&[u32]>
         ensures { IfSome result (λ nodes. AreNoted self.now nodes.now) }
     {
@@ -97,7 +97,7 @@ impl Tentative {
         }
     }
 
-    /// Takes all values away, in time for the nodes that were noted, or where they were not, for all.
+    /// Removes all values, in time for the noted nodes, or, if they were not noted, for all nodes.
     pub fn wipe(&mut self)
         ensures blank { self.new ≡ replicate (length self.old) None }
     {
@@ -107,7 +107,7 @@ impl Tentative {
         }
     }
 
-    /// Takes the values of these nodes away, which are all that have one. No node is noted then.
+    /// Removes the values of these nodes, which are all that have one. Then no node is noted.
     fn wipe_noted(&mut self, noted: Vec<u32>)
         requires noted { AreNoted self.old noted.items }
         ensures blank { self.new ≡ replicate (length self.old) None }
@@ -118,7 +118,7 @@ impl Tentative {
         self.noted = Some(noted);
     }
 
-    /// Takes the values of these nodes away.
+    /// Removes the values of these nodes.
     fn clear_all(&mut self, nodes: &[u32])
         requires nodes { All (λ u. (1 ≤ u) × (u < length self.old)) nodes.now }
         ensures cleared { All (λ u. value_at self.new u ≡ None) nodes.now }
@@ -130,7 +130,7 @@ impl Tentative {
         }
     }
 
-    /// The values that these words say, from node 1 on; 2^64 - 1 stands for no value. It takes no memory.
+    /// The values of these words, from node 1 on. 2^64 - 1 means no value. It takes no memory.
     pub fn from_words(words: Vec<u64>) -> Tentative
         ensures { result ≡ None ∷ map value_of_word words.items }
     {
@@ -146,7 +146,7 @@ impl Tentative {
         if word == NO_VALUE { None } else { Some(word) }
     }
 
-    /// Gives a node this value, which is below 2^64 - 1.
+    /// Sets the value of a node, which is below 2^64 - 1.
     #[inline(always)]
     pub fn set(&mut self, node: u32, value: u64)
         requires node { (1 ≤ node) × (node < length self.old) }
@@ -164,7 +164,7 @@ impl Tentative {
         self.words[place] = value;
     }
 
-    /// Takes a node's value away.
+    /// Removes a node's value.
     pub fn clear(&mut self, node: u32)
         requires node { (1 ≤ node) × (node < length self.old) }
         ensures cleared { self.new ≡ slice_set self.old node None }
@@ -172,7 +172,7 @@ impl Tentative {
         self.words[node as usize - 1] = NO_VALUE;
     }
 
-    /// The values as words, from node 1 on; 2^64 - 1 stands for no value.
+    /// The values as words, from node 1 on. 2^64 - 1 means no value.
     pub fn into_words(self) -> Vec<u64>
         ensures words { self ≡ None ∷ map value_of_word result.items }
     {

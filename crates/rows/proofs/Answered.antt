@@ -11,8 +11,8 @@ use Rattle.rows.specs.declared.queries.Query.TheVariants.{Dist, From, Lower}
 use Rattle.rows.specs.declared.queries.Reply.{Reply}
 use Rattle.rows.specs.declared.queries.Reply.TheVariants.{Length, NoWalk, AtLeast, Refused}
 use Rattle.snapshot.specs.Groups.{Groups, IsSnapshotOf}
-use Rattle.rows.specs.declared.caches.RowCache.{RowCache}
-use Rattle.rows.specs.Cached.{HasRowsOf}
+use Rattle.kept_rows.specs.declared.caches.RowCache.{RowCache}
+use Rattle.kept_rows.specs.Cached.{HasRowsOf}
 use Rattle.rows.specs.Replies.{IsAnswer, IsDistance, IsRight, are_nodes, refusal_of}
 
 passes_node : (net : Net) (x : ℕ) → is_node net x ≡ true → IsNode net x

@@ -7,7 +7,8 @@ use Rattle.std.proofs.lemmas.List.Elements.{Contains-append_left, Contains-push,
 use Rattle.roadnet.specs.Net.{Net, IsNode}
 use Rattle.roadnet.specs.Walks.{Least, NoWalk, RowOf, distance_at}
 use Rattle.roadnet.proofs.Joined.{least_is_one, least_or_no_walk}
-use Rattle.rows.specs.Bounds.{ShowsNoWalk, HasDifference, IsBoundBy, IsShown, difference_of, told_by}
+use Rattle.rows.specs.Bounds.{ShowsNoWalk, HasDifference, IsBoundBy, IsShown}
+use Rattle.kept_rows.specs.Told.{difference_of, told_by}
 
 max_cases : (a b : ℕ) → (max a b ≡ a) ⊎ (max a b ≡ b)
 max_cases a b = ⊎_elim (λ (lt : a < b). inr (omega arith)) (λ (le : b ≤ a). inl (omega arith)) (cases_lt a b)

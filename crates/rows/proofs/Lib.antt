@@ -2,7 +2,6 @@ pub mod Answered
 pub mod Batched
 pub mod BoundLaws
 pub mod Bounded
-pub mod CacheRows
 pub mod LandmarkRows
 pub mod Leaders
 pub mod Parts

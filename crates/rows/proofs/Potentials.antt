@@ -12,7 +12,7 @@ use Rattle.deltastep.specs.Words.{distance_of_short}
 use Rattle.deltastep.proofs.Entries.{entry_none, entry_some}
 use Rattle.deltastep.proofs.Finishing.{walk_of_trip}
 use Rattle.deltastep.proofs.Guiding.{consistent_is_lower_bound}
-use Rattle.rows.specs.Bounds.{difference_of}
+use Rattle.kept_rows.specs.Told.{difference_of}
 use Rattle.rows.specs.Guides.{potential_by, potential_of, AreOfSnapshot, PotentialIsConsistent, PotentialAtTarget}
 use Rattle.rows.specs.declared.landmark_rows.Row.{Row}
 

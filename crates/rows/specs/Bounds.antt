@@ -1,7 +1,7 @@
 -- What the distances from landmarks tell of the walks from a node s to a node t.
-use Rattle.std.specs.Prelude.{◌≡◌, ◌⊎◌, ℕ, ◌-◌, ◌≤◌, List, Option, None, Some, Contains}
+use Rattle.std.specs.Prelude.{◌≡◌, ◌⊎◌, ℕ, ◌-◌, ◌≤◌, List, Contains}
 use Rattle.roadnet.specs.Net.{Net}
-use Rattle.roadnet.specs.Walks.{Least, NoWalk, distance_at}
+use Rattle.roadnet.specs.Walks.{Least, NoWalk}
 
 -- A walk leads from the landmark to s, and none to t: so none leads from s to t.
 pub record ShowsNoWalk (net : Net) (s t landmark : ℕ) : Type 0 where
@@ -35,12 +35,3 @@ IsShown net s t = IsShownBy net.landmarks net s t
 
 abbrev pub IsBound : Net → ℕ → ℕ → ℕ → Type 0
 IsBound net s t bound = IsBoundBy net.landmarks net s t bound
-
--- what the row of one landmark tells: nothing where it shows that there is no walk, else the difference, or 0 where it has none
-abbrev pub difference_of : Option ℕ → Option ℕ → Option ℕ
-difference_of None to_target = Some 0
-difference_of (Some to_source) None = None
-difference_of (Some to_source) (Some to_target) = Some (to_target - to_source)
-
-abbrev pub told_by : List (Option ℕ) → ℕ → ℕ → Option ℕ
-told_by row s t = difference_of (distance_at row s) (distance_at row t)

@@ -6,7 +6,7 @@ use Rattle.roadnet.specs.Walks.{RowOf, distance_at}
 use Rattle.snapshot.specs.Groups.{Groups, IsSnapshotOf, IsGrouped}
 use Rattle.deltastep.specs.Guided.{IsConsistent}
 use Rattle.deltastep.specs.Words.{distance_of_short}
-use Rattle.rows.specs.Bounds.{difference_of, told_by}
+use Rattle.kept_rows.specs.Told.{difference_of, told_by}
 use Rattle.rows.specs.declared.guides.Toward.{Toward}
 use Rattle.rows.specs.declared.landmark_rows.Row.{Row}
 

@@ -3,7 +3,6 @@ pub mod Guides
 pub mod BoundLaws
 pub mod Replies
 pub mod ReplyLaws
-pub mod Cached
 pub mod Kept
 pub mod Batches
 pub mod Backs

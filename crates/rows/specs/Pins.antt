@@ -2,11 +2,11 @@
 use Rattle.std.specs.Prelude.{◌≡◌, ℕ, None, IsSome}
 use Rattle.roadnet.specs.Net.{Net}
 use Rattle.rows.specs.Views.{Viewed}
-use Rattle.rows.specs.Cached.{HasRowsOf, HasUsed, rows_of}
+use Rattle.kept_rows.specs.Cached.{HasRowsOf, HasUsed, rows_of}
 use Rattle.rows.specs.Replies.{refusal_of}
 use Rattle.rows.specs.declared.queries.Query.{Query}
 use Rattle.rows.specs.declared.queries.Query.TheVariants.{Dist, From, Lower}
-use Rattle.rows.specs.declared.caches.RowCache.{RowCache}
+use Rattle.kept_rows.specs.declared.caches.RowCache.{RowCache}
 use Rattle.rows.specs.declared.pinned.Pinned.{Pinned}
 
 -- the view, and the cache as it is now

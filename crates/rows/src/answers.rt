@@ -1,21 +1,22 @@
-ghost use Rattle.std.specs.Prelude.{◌≡◌, ℕ, None, IfOk, IsOk, IsSome, OnErr};
+ghost use Rattle.std.specs.Prelude.{◌≡◌, ℕ, List, Option, None, IfOk, IsOk, IsSome, OnErr};
 ghost use Rattle.roadnet.specs.Net.{Net, IsNetwork, IsNode};
-ghost use Rattle.roadnet.specs.Walks.{RowOf};
+ghost use Rattle.roadnet.specs.Walks.{RowOf, distance_at};
 ghost use Rattle.snapshot.specs.Groups.{IsSnapshotOf};
-ghost use Rattle.rows.specs.Cached.{KeepsOthers, HasRowsOf, HasUsed, capacity_of, row_kept, rows_of};
+ghost use Rattle.kept_rows.specs.Cached.{KeepsOthers, HasRowsOf, HasUsed, capacity_of, row_kept, rows_of};
 ghost use Rattle.rows.specs.Replies.{IsDistance, IsRight, refusal_of};
 ghost use Rattle.rows.specs.declared.queries.Query.TheVariants.{Dist};
 
 use crate::bounds::plain_bound;
-use crate::caches::RowCache;
+use crate::cached::distance;
 use crate::queries::{Query, Reply};
 use deltastep::{Distances, RowError, plain_row};
+use kept_rows::RowCache;
 use roadnet::{Network, OutOfMemory, Refusal};
 use snapshot::Snapshot;
 use std::alloc::Global;
 use std::thread::Threads;
 
-/// For what a query is refused, if it is: the lowest refusal that applies.
+/// Why a query is refused, if it is: the lowest refusal that applies.
 pub(crate) fn refusal_of(network: &Network, query: &Query) -> Option<Refusal>
     ensures refusal { result ≡ refusal_of network.now query.now }
     ensures network { IsNetwork network.now }
@@ -32,14 +33,21 @@ pub(crate) fn refusal_of(network: &Network, query: &Query) -> Option<Refusal>
     }
 }
 
-/// What a row tells of the walks from its source to a node. It takes no memory.
-pub fn distance_in(row: &Distances, target: u64) -> Reply
-    ensures { (net : Net) (source : ℕ) → IsNode net target → RowOf net source row.now → IsDistance net source target result }
+/// The reply to a query of a distance, by what a row has for the target.
+pub(crate) fn distance_by(length: Option<u64>) -> Reply
+    ensures { (net : Net) (source target : ℕ) (row : List (Option ℕ)) → length ≡ distance_at row target → IsNode net target → RowOf net source row → IsDistance net source target result }
 {
-    match row.get(target) {
+    match length {
         Some(length) => Reply::Length(length),
         None => Reply::NoWalk,
     }
+}
+
+/// What a row says of the walks from its source to a node. It takes no memory.
+pub fn distance_in(row: &Distances, target: u64) -> Reply
+    ensures { (net : Net) (source : ℕ) → IsNode net target → RowOf net source row.now → IsDistance net source target result }
+{
+    distance_by(row.get(target))
 }
 
 /// The reply to `Dist` in a network whose open arcs are grouped, by a row of the cache or a new one.
@@ -69,10 +77,10 @@ pub(crate) fn reply_by<R: Threads>(
     if let Some(refusal) = refusal_of(network, &query) {
         return Ok(Reply::Refused(refusal));
     }
-    cache.distance(rt, alloc, version, snapshot, source as u32, target)
+    distance(rt, alloc, cache, version, snapshot, source as u32, target)
 }
 
-/// The least length of a walk between two nodes, by a row that is made for it alone.
+/// The least length of a walk between two nodes, from a row that is made for it alone.
 fn plain_distance(
     alloc: Global,
     network: &Network,
@@ -90,9 +98,9 @@ fn plain_distance(
     }
 }
 
-/// The reply to a query, by rows of plain relaxation that are made for it alone: slow, for comparison with faster ways.
+/// The reply to a query, from rows of plain relaxation that are made for it alone: slow, for comparison with faster ways.
 ///
-/// Its one error is want of memory for a row; a refused query takes none.
+/// Its only error is lack of memory for a row; a refused query takes none.
 ///
 /// In the network of `examples/six.gr` without landmarks, `Dist { source: 1, target: 6 }` is `Length(15)`, `Lower { source: 1, target: 6 }`
 /// `AtLeast(0)`, and `From { landmark: 3, target: 4 }` `Refused(NotALandmark)`.

@@ -1,4 +1,4 @@
-//! Whoever asks a network: for a length, a row, or what lies near a node.
+//! Whoever asks a network: for a length, a row, or what is near a node.
 
 ghost use Rattle.std.specs.Prelude.{◌≡◌, true, IfOk, IfErr, IfSome, OnOk, MatchOption};
 ghost use Rattle.deltastep.specs.Reach.{AreNearest, IsReach, IsReachTo};
@@ -24,15 +24,15 @@ use snapshot::Snapshot;
 use std::alloc::Global;
 use std::marker::Model;
 
-/// A network that is asked: its open arcs, grouped, and the view that it is of, if it is of one, for the rows of its landmarks. Contracts see it as a view.
-/// Its searches take up what earlier ones left in a workspace, and leave their own memory there.
+/// A network that is asked: its grouped open arcs, and, for the rows of its landmarks, the view that it belongs to, if it belongs to one. Contracts see it
+/// as a view. Its searches use what earlier ones left in a workspace, and leave their own memory there.
 #[derive(Drop)]
 pub struct Asker<'a> {
     version: u64,
     network: &'a Network,
     groups: &'a Snapshot,
     view: Option<&'a View>,
-    /// The open arcs the other way round, grouped, where they are given.
+    /// The open arcs the other way round, grouped, if they are given.
     turned: Option<&'a Snapshot>,
 }
 
@@ -54,7 +54,7 @@ impl<'a> Model for Asker<'a> {
 }
 
 impl<'a> Asker<'a> {
-    /// Whoever asks a network by its groups alone: no row of a landmark is there.
+    /// An asker of a network that has only its groups, and no row of a landmark.
     pub fn of(version: u64, network: &'a Network, groups: &'a Snapshot) -> Asker<'a>
         requires { IsSnapshotOf network.now groups.now }
         ensures { result ≡ record { version = version; network = network.now; delta = groups.now.delta } }
@@ -68,7 +68,7 @@ impl<'a> Asker<'a> {
         }
     }
 
-    /// Whoever asks a view.
+    /// An asker of a view.
     pub(crate) fn of_view(view: &'a View) -> Asker<'a>
         ensures { result ≡ view.now }
     {
@@ -81,7 +81,7 @@ impl<'a> Asker<'a> {
         }
     }
 
-    /// The same, with the open arcs of the network the other way round, as `turn` makes them.
+    /// The same asker, with the open arcs of the network the other way round, as `turn` makes them.
     pub fn with_turned(self, turned: &'a Snapshot) -> Asker<'a>
         requires { IsSnapshotOf (reversed self.network) turned.now }
         ensures { result ≡ self.entry }
@@ -113,14 +113,14 @@ impl<'a> Asker<'a> {
         self.groups
     }
 
-    /// The view that is asked, if one is.
+    /// The view that is asked, if there is one.
     fn view(&self) -> Option<&View>
         ensures { IfSome result (λ view. view.now.network ≡ self.now.network) }
     {
         self.view
     }
 
-    /// The row of a node that is there: the one that is given, or that of a landmark of the view.
+    /// The row of a node, if there is one: the given one, or that of a landmark of the view.
     fn row_had<'b>(&'b self, node: u32, kept: Option<&'b Distances>) -> Option<&'b Distances>
         requires { IfSome kept (λ row. RowOf self.now.network node row.now) }
         ensures { IfSome result (λ row. RowOf self.now.network node row.now) }
@@ -133,7 +133,7 @@ impl<'a> Asker<'a> {
         Some(&own.distances)
     }
 
-    /// A new row of a node, of 4 or 8 bytes a node. The one error is want of memory.
+    /// A new row of a node, of 4 or 8 bytes a node. The only error is lack of memory.
     pub fn row<T: Team>(
         &self,
         alloc: Global,
@@ -150,7 +150,7 @@ impl<'a> Asker<'a> {
         }
     }
 
-    /// The least length of a walk between two nodes, or nothing where no walk leads from the one to the other.
+    /// The least length of a walk between two nodes, or nothing if no walk leads from the one to the other.
     fn length<T: Team>(
         &self,
         alloc: Global,
@@ -169,8 +169,8 @@ impl<'a> Asker<'a> {
         }
     }
 
-    /// The reply to `Dist` of two nodes, by a search that ends at the target: led by the rows of the view's landmarks, where there are some. It keeps no
-    /// row. The one error is want of memory.
+    /// The reply to `Dist` of two nodes, by a search that ends at the target. The rows of the view's landmarks lead it, if there are any. It keeps no row.
+    /// The only error is lack of memory.
     ///
     /// In the network of `examples/six.gr`, from 1 to 6 it is `Length(15)`, and from 6 to 1 `NoWalk`.
     pub fn distance<T: Team>(
@@ -192,7 +192,7 @@ impl<'a> Asker<'a> {
         }
     }
 
-    /// The nodes that the source reaches within the limit: by its row, where one is there, else by a search that ends beyond the limit.
+    /// The nodes that the source reaches within the limit: from its row, if there is one, otherwise by a search that ends beyond the limit.
     fn reach<T: Team>(
         &self,
         alloc: Global,
@@ -212,8 +212,8 @@ impl<'a> Asker<'a> {
         reach_in(alloc, self.groups(), source, limit, team, workspace)
     }
 
-    /// The open arcs of the network the other way round, grouped by the same width, over which `near` searches the nodes from which one is reached. The one
-    /// error is want of memory, for 16 bytes an arc on the way, and 8 an open arc and 8 a node.
+    /// The open arcs of the network the other way round, grouped by the same width. `near` searches over them the nodes from which a node is reached. The
+    /// only error is lack of memory, for 8 bytes an open arc and 8 a node, and temporarily 16 an arc.
     pub fn turn(&self, alloc: Global) -> Result<Snapshot, OutOfMemory>
         ensures { IfOk result (IsSnapshotOf (reversed self.now.network)) }
     {
@@ -221,7 +221,7 @@ impl<'a> Asker<'a> {
         turned_groups(alloc, self.network(), delta)
     }
 
-    /// These arcs, where they are given.
+    /// These arcs, if they are given.
     fn turned(&self) -> Option<&Snapshot>
         ensures network { IsNetwork self.now.network }
         ensures arcs { IfSome result (λ back. IsSnapshotOf (reversed self.now.network) back.now) }
@@ -230,7 +230,7 @@ impl<'a> Asker<'a> {
         self.turned
     }
 
-    /// The nodes from which the target is reached within the limit, by a search over the arcs turned round: those that are given, else new ones.
+    /// The nodes from which the target is reached within the limit, by a search over the reversed arcs: the given ones, otherwise new ones.
     fn reached<T: Team>(
         &self,
         alloc: Global,
@@ -249,7 +249,7 @@ impl<'a> Asker<'a> {
         reached_in(alloc, &back, target, limit, team, workspace)
     }
 
-    /// The landmarks nearest to the source: by its row, where one is there, else by a search that ends as soon as so many are final.
+    /// The landmarks nearest to the source: from its row, if there is one, otherwise by a search that ends as soon as so many are final.
     fn nearest<T: Team>(
         &self,
         alloc: Global,
@@ -278,7 +278,7 @@ impl<'a> Asker<'a> {
         )
     }
 
-    /// What is asked of the nodes near this one of the network's nodes.
+    /// The answer to a question about the nodes near this one of the network's nodes.
     fn found<T: Team>(
         &self,
         alloc: Global,
@@ -306,16 +306,16 @@ impl<'a> Asker<'a> {
         }
     }
 
-    /// The nodes near one, each with its least length: those that walks from a source reach within a limit, or from which walks reach a target within it,
-    /// ascending by node; or the landmarks nearest to a source, ascending by length, and of two as near the one of the lower number first, fewer where walks
-    /// lead to fewer. Where a row of the node is given, or the source is a landmark of the view, they are told by that; else by a search that ends beyond the
-    /// limit, or as soon as so many landmarks are final. The nodes from which a target is reached are searched over the arcs turned round: those that `turn`
-    /// made, where they are given, else new ones.
+    /// The nodes near a node, each with its least length: those that walks from a source reach within a limit, or from which walks reach a target within
+    /// it, ascending by node; or the landmarks nearest to a source, ascending by length, and the lower number first if two are equally near, fewer if walks
+    /// lead to fewer. If a row of the node is given, or the source is a landmark of the view, they come from that row. Otherwise they come from a search
+    /// that ends beyond the limit, or as soon as so many landmarks are final. The nodes from which a target is reached are searched over the reversed arcs:
+    /// those that `turn` made, if they are given, otherwise new ones.
     ///
-    /// Refused is a number that is no node's (24), and want of memory (11).
+    /// It fails with 24 for a number that is not a node's, and with 11 for lack of memory.
     ///
-    /// In the network of `examples/six.gr` with the landmarks 3 and 6, from 1 within 10 there are 1, 2, 3 and 5, with the lengths 0, 10, 10 and 10; to 4 within
-    /// 2 lead 2, 3, 4 and 5, with 2, 2, 0 and 2; and nearest to 1 is 3 at 10.
+    /// In the network of `examples/six.gr` with the landmarks 3 and 6, from 1 within 10 there are 1, 2, 3 and 5, with the lengths 0, 10, 10 and 10. 2, 3, 4
+    /// and 5 lead to 4 within 2, with 2, 2, 0 and 2. The landmark nearest to 1 is 3, at 10.
     pub fn near<T: Team>(
         &self,
         alloc: Global,

@@ -1,27 +1,28 @@
-//! Whoever asks a network and keeps rows of it.
+//! An asker of a network that keeps rows of it.
 
 ghost use Rattle.std.specs.Prelude.{◌≡◌, true, IfOk, IfErr, IsOk, IsSome, OnOk};
 ghost use Rattle.roadnet.specs.Net.{IsNode};
 ghost use Rattle.roadnet.specs.Step.{is_node};
-ghost use Rattle.rows.specs.Cached.{HasRowsOf, capacity_of};
+ghost use Rattle.kept_rows.specs.Cached.{HasRowsOf, capacity_of};
 ghost use Rattle.rows.specs.Nearby.{node_of, IsNear, IsUntold};
 ghost use Rattle.rows.specs.Replies.{IsDistance, IsRight, refusal_of};
 ghost use Rattle.rows.specs.declared.queries.Query.TheVariants.{Dist, From};
 
 use crate::answers::refusal_of;
 use crate::askers::Asker;
-use crate::caches::RowCache;
+use crate::cached::{distance, near_of, stopped};
 use crate::nearby::Near;
 use crate::queries::{Query, Reply};
 use deltastep::NodeDistance;
+use kept_rows::RowCache;
 use relax::{CHUNK, Crew};
 use roadnet::{OutOfMemory, Refusal};
 use std::alloc::Global;
 use std::thread::Threads;
 
 impl Asker<'_> {
-    /// The distance between two nodes: by the row of the source, where it is kept, or where the source was the one that was asked last, by a new row, which
-    /// is kept then; else by a search that ends at the target.
+    /// The distance between two nodes: from the row of the source, if it is kept; by a new row, which is then kept, if the source is also the one that was
+    /// asked last; otherwise by a search that ends at the target.
     fn told<R: Threads>(
         &self,
         rt: &R,
@@ -38,14 +39,22 @@ impl Asker<'_> {
     {
         let version = self.version();
         if cache.is_wanted(version, source) {
-            return cache.distance(rt, alloc, version, self.groups(), source, u64::from(target));
+            return distance(
+                rt,
+                alloc,
+                cache,
+                version,
+                self.groups(),
+                source,
+                u64::from(target),
+            );
         }
-        cache.stopped(rt, alloc, self, source, target)
+        stopped(rt, alloc, cache, self, source, target)
     }
 
-    /// The reply to `Dist`, for who asks one source or another: by the row of the source, where it is kept, or where the source was the one that was asked
-    /// last, by a new row, which is kept then where memory is there for it; else by a search that ends at the target. The one error is want of memory for a
-    /// search; a refused query takes none.
+    /// The reply to `Dist`, for an asker that asks now of one source and now of another: from the row of the source, if it is kept; by a new row, which is
+    /// then kept if there is memory for it, if the source is also the one that was asked last; otherwise by a search that ends at the target. The only
+    /// error is lack of memory for a search; a refused query takes none.
     pub fn ask<R: Threads>(
         &self,
         rt: &R,
@@ -66,8 +75,8 @@ impl Asker<'_> {
         self.told(rt, alloc, cache, source as u32, target as u32)
     }
 
-    /// The reply to `From`, as `ask` gives that to `Dist`: for a network of which no row of a landmark is there. The one error is want of memory for a search;
-    /// a refused query takes none.
+    /// The reply to `From`, as `ask` gives that to `Dist`: for a network without rows of landmarks. The only error is lack of memory for a search; a
+    /// refused query takes none.
     pub fn ask_from<R: Threads>(
         &self,
         rt: &R,
@@ -88,7 +97,7 @@ impl Asker<'_> {
         self.told(rt, alloc, cache, landmark as u32, target as u32)
     }
 
-    /// The nodes near one, as `near` tells them, with the memory of a cache's searches. It takes no row that is kept, and keeps none.
+    /// The nodes near a node, as `near` gives them, with the memory of a cache's searches. It uses no row that is kept, and keeps none.
     pub fn ask_near<R: Threads>(
         &self,
         rt: &R,
@@ -102,6 +111,6 @@ impl Asker<'_> {
         ensures causes { IfErr result (IsUntold (is_node self.now.network (node_of near))) }
         ensures kept { HasRowsOf self.now.version self.now.network cache.new }
     {
-        cache.near(rt, alloc, self, near)
+        near_of(rt, alloc, cache, self, near)
     }
 }

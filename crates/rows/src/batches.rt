@@ -1,25 +1,25 @@
-//! Replies to many pairs, whatever their order: each source, or each target where these are fewer, is searched once.
+//! Replies to many pairs, whatever their order: each source, or each target if there are fewer targets, is searched once.
 
 ghost use Rattle.std.specs.Prelude.{◌≡◌, ◌≤◌, ◌<◌, [], length, IfOk, IsOk};
 ghost use Rattle.roadnet.specs.Net.{Net};
 ghost use Rattle.snapshot.specs.Groups.{IsSnapshotOf};
 ghost use Rattle.rows.specs.Batches.{AreRightBy, ArePlaces};
-ghost use Rattle.rows.specs.Cached.{KeepsOthers, HasRowsOf, capacity_of};
+ghost use Rattle.kept_rows.specs.Cached.{KeepsOthers, HasRowsOf, capacity_of};
 ghost use Rattle.rows.specs.Kept.{IsWidth};
 
 use crate::answers::reply_by;
-use crate::caches::{DEFAULT_ROWS, RowCache};
 use crate::ends::{Ends, Turned};
 use crate::places::{has_fewer_targets, next_sources, places_by_source};
 use crate::queries::Reply;
 use crate::side_by_side::fetch_rows;
 use crate::turning::WIDEST;
+use kept_rows::{DEFAULT_ROWS, RowCache};
 use roadnet::{Network, OutOfMemory};
 use snapshot::Snapshot;
 use std::alloc::Global;
 use std::thread::Threads;
 
-/// The replies to pairs, one after the other.
+/// The replies to pairs, made one after the other.
 fn in_order<R: Threads, E: Ends>(
     rt: &R,
     alloc: Global,
@@ -49,8 +49,8 @@ fn in_order<R: Threads, E: Ends>(
     Ok(replies)
 }
 
-/// Where the rows of the sources at the places before this one are not made yet, it makes those of the next sources, as far as memory is there. Gives up to
-/// which place they are made.
+/// If the rows of the sources at the places before this one are not made yet, makes those of the next sources, as far as memory allows. Returns up to which
+/// place they are made.
 fn fetch_next<R: Threads, E: Ends>(
     rt: &R,
     alloc: Global,
@@ -117,7 +117,7 @@ fn by_places<R: Threads, E: Ends>(
     Ok(replies)
 }
 
-/// The replies to pairs, in their order, by the rows of their targets over the arcs turned round. The one error is want of memory.
+/// The replies to pairs, in their order, from the rows of their targets over the reversed arcs. The only error is lack of memory.
 fn by_targets<R: Threads, E: Ends>(
     rt: &R,
     alloc: Global,
@@ -141,8 +141,8 @@ fn by_targets<R: Threads, E: Ends>(
     )
 }
 
-/// The replies to pairs, in their order. Each source whose row is not kept is searched once, or, where these are fewer, each target over the arcs turned
-/// round; the rows of several are made side by side.
+/// The replies to pairs, in their order. Each source whose row is not kept is searched once; or, if there are fewer targets, each target is, over the
+/// reversed arcs. The rows of several are made side by side.
 fn by_searches<R: Threads, E: Ends>(
     rt: &R,
     alloc: Global,
@@ -174,11 +174,11 @@ fn by_searches<R: Threads, E: Ends>(
     )
 }
 
-/// The replies to `Dist` for pairs, in their order: each source whose row is not kept is searched once, whatever the order, or, where these are fewer, each
-/// target over the arcs turned round. Up to four searches are made side by side, and the rows of sources are kept.
+/// The replies to `Dist` for pairs, in their order. Each source whose row is not kept is searched once, whatever the order; or, if there are fewer targets,
+/// each target is, over the reversed arcs. Up to four searches are made side by side, and the rows of sources are kept.
 ///
-/// The one error is want of memory, for 20 bytes a pair, a flag a node and a row; where it is there for these and no more, searches are made one after the
-/// other, from the sources.
+/// The only error is lack of memory, for 20 bytes a pair, a flag a node and a row. If there is memory for these but no more, searches are made one after
+/// the other, from the sources.
 pub(crate) fn replies_to<R: Threads, E: Ends>(
     rt: &R,
     alloc: Global,

@@ -2,7 +2,7 @@
 
 ghost use Rattle.std.specs.Prelude.{◌≡◌, ℕ};
 
-/// What the source and the target of a pair are, of pairs of some kind.
+/// Which nodes are the source and the target of a pair, for pairs of some type.
 pub trait Ends {
     /// A pair.
     type Pair;
@@ -42,7 +42,7 @@ impl Ends for Numbers {
     }
 }
 
-/// The same pairs with their ends exchanged.
+/// The same pairs with their ends swapped.
 #[derive(Drop)]
 pub(crate) struct Turned<'a, E> {
     pub(crate) ends: &'a E,

@@ -10,10 +10,10 @@ ghost use Rattle.deltastep.specs.Guided.{IsLowerBound};
 ghost use Rattle.deltastep.specs.Words.{distance_of_short};
 ghost use Rattle.rows.specs.Guides.{AreAlike, AreOfSnapshot, PotentialAtTarget, PotentialIsConsistent, TellNoMore, leading, leads, potential_by, potential_of, potential_toward, told_toward};
 
-use crate::bounds::told_by;
 use crate::landmark_rows::Row;
 use crate::views::View;
 use deltastep::{Guide, RowError, Workspace, distance_guided_in, distance_to_in};
+use kept_rows::told_by;
 use relax::Team;
 use std::alloc::Global;
 
@@ -23,18 +23,18 @@ pub fn laws_of_potentials()
     ensures at_target { PotentialAtTarget }
 {}
 
-/// How many landmarks lead a search, where there are as many: those that tell most of the ways from its source. More of them settle fewer
-/// nodes, and take longer at each.
+/// How many landmarks lead a search, if there are so many: those that give the greatest bound at its source. More of them settle fewer nodes, and take
+/// longer at each.
 const LEADERS: usize = 8;
 
-/// What a row tells of the ways from a node to the target, or 0.
+/// The bound that a row gives for the ways from a node to the target, or 0.
 fn told_of(row: &Row, target: u32, node: u32) -> u64
     ensures { result ≡ potential_by row.now.distances target node }
 {
     told_by(&row.distances, u64::from(node), u64::from(target)).unwrap_or(0)
 }
 
-/// The potential of a node: the greatest of what these rows tell of the ways from it to the target. It takes no memory.
+/// The potential of a node: the greatest bound that these rows give for the ways from it to the target. It takes no memory.
 fn potential_of(rows: &[Row], target: u32, node: u32) -> u64
     ensures { result ≡ potential_of rows.now target node }
 {
@@ -45,7 +45,7 @@ fn potential_of(rows: &[Row], target: u32, node: u32) -> u64
     potential
 }
 
-/// What each of these rows tells of the source, in their order.
+/// The bound that each of these rows gives at the source, in their order.
 fn told_by_each(alloc: Global, rows: &[Row], target: u32, source: u32) -> Option<Vec<u64>> {
     let mut told = Vec::new(alloc);
     for row in rows {
@@ -56,7 +56,7 @@ fn told_by_each(alloc: Global, rows: &[Row], target: u32, source: u32) -> Option
     Some(told)
 }
 
-/// The eighth greatest of these, or the least where they are fewer, or 0 where there are none.
+/// The eighth greatest of these, or the least if there are fewer, or 0 if there are none.
 fn least_leader(mut told: Vec<u64>) -> u64 {
     told.sort_unstable();
     let beside = told.len().saturating_sub(LEADERS);
@@ -66,7 +66,7 @@ fn least_leader(mut told: Vec<u64>) -> u64 {
     }
 }
 
-/// What a row has to tell of the source at least so that it leads: it is no more than the greatest that one tells.
+/// The least bound at the source with which a row leads. It is at most the greatest bound of a row.
 fn least_told(alloc: Global, rows: &[Row], target: u32, source: u32) -> Option<u64>
     ensures { IfSome result (λ least. least ≤ potential_of rows.now target source) }
 {
@@ -75,21 +75,21 @@ fn least_told(alloc: Global, rows: &[Row], target: u32, source: u32) -> Option<u
     Some(least_leader(told).min(greatest))
 }
 
-/// Whether a row tells at least so much of the source.
+/// Whether the bound of a row at the source is at least this.
 fn leads(row: &Row, target: u32, source: u32, least: u64) -> bool
     ensures { result ≡ leads least target source row.now }
 {
     least <= told_of(row, target, source)
 }
 
-/// A row that is kept in words of 4 bytes, and the length of the landmark's way to a target, or 0 where none leads there.
+/// A row that is kept in words of 4 bytes, and the length of the landmark's way to a target, or 0 if no walk leads there.
 #[derive(Drop)]
 struct Toward<'a> {
     words: &'a [u32],
     to_target: u32,
 }
 
-/// The length that such words have for a node, or 0 where they say that no walk leads there.
+/// The length that such words have for a node, or 0 if they say that no walk leads there.
 fn length_to(words: &[u32], node: u32) -> u32
     ensures { result ≡ unwrap_or (distance_at (map distance_of_short words.now) node) 0 }
 {
@@ -103,7 +103,7 @@ fn length_to(words: &[u32], node: u32) -> u32
     word
 }
 
-/// A row as it is read for a target, where it is kept in words of 4 bytes.
+/// A row as it is read for a target, if it is kept in words of 4 bytes.
 fn toward_of<'a>(row: &'a Row, target: u32) -> Option<Toward<'a>>
     ensures words { IfSome result (λ toward. row.now.distances ≡ map distance_of_short toward.words.now) }
     ensures to_target { IfSome result (λ toward. toward.to_target ≡ unwrap_or (distance_at (map distance_of_short toward.words.now) target) 0) }
@@ -115,8 +115,7 @@ fn toward_of<'a>(row: &'a Row, target: u32) -> Option<Toward<'a>>
     Some(Toward { words, to_target })
 }
 
-/// Those rows that tell at least so much of the source, as they are read for a target, where all of them are kept in words of 4 bytes and
-/// memory is there.
+/// Those rows whose bound at the source is at least this, as they are read for a target, if all of them are kept in words of 4 bytes and there is memory.
 fn towards_of<'a>(
     alloc: Global,
     rows: &'a [Row],
@@ -159,7 +158,7 @@ struct Leaders<'a> {
     ghost long: { All (λ toward. shortest ≤ length toward.words.now) towards.items },
 }
 
-/// The rows that tell most of the source, as they are read for a target.
+/// The rows with the greatest bounds at the source, as they are read for a target.
 fn leaders_of<'a>(alloc: Global, rows: &'a [Row], target: u32, source: u32) -> Option<Leaders<'a>>
     ensures below { IfSome result (λ leaders. TellNoMore leaders.towards.items rows.now target) }
     ensures source { IfSome result (λ leaders. potential_toward leaders.towards.items source ≡ potential_of rows.now target source) }
@@ -170,7 +169,7 @@ fn leaders_of<'a>(alloc: Global, rows: &'a [Row], target: u32, source: u32) -> O
     Some(Leaders { towards, shortest })
 }
 
-/// What a row tells of a node that it has a word for: by how much the way to the target is longer, or 0.
+/// The bound that a row gives for a node that it has a word for: by how much the way to the target is longer, or 0.
 #[inline(always)]
 fn told_toward(toward: &Toward, node: u32) -> u32
     requires node { (1 ≤ node) × (node ≤ length toward.now.words.now) }
@@ -180,7 +179,7 @@ fn told_toward(toward: &Toward, node: u32) -> u32
     toward.to_target.saturating_sub(word)
 }
 
-/// The greatest of what these rows tell of a node that each has a word for.
+/// The greatest bound that these rows give for a node that each has a word for.
 #[inline(always)]
 fn potential_toward(towards: &[Toward], node: u32) -> u64
     requires node { 1 ≤ node }
@@ -195,7 +194,7 @@ fn potential_toward(towards: &[Toward], node: u32) -> u64
 }
 
 impl Leaders<'_> {
-    /// The greatest of what the rows tell of a node, or 0 where not each has a word for it.
+    /// The greatest bound that the rows give for a node, or 0 if not each has a word for it.
     #[inline(always)]
     fn potential(&self, node: u32) -> u64
         ensures below { result ≤ potential_toward self.now.towards.items node }
@@ -217,9 +216,9 @@ pub struct Landmarks<'a> {
 }
 
 impl<'a> Landmarks<'a> {
-    /// These rows, of one network, as a guide to a node of it from a source. Eight of them lead, those that tell most of the source, or more
-    /// where some tell as much as the eighth. It takes 8 bytes a landmark and 24 for each that leads; where no memory is given, or a row has
-    /// words of 8 bytes, all rows lead as they are, which takes longer.
+    /// These rows, of one network, as a guide from a source to a target of it. Eight of them lead, those with the greatest bounds at the source; or more,
+    /// if some have the same bound as the eighth. It takes 8 bytes a landmark and 24 for each that leads. If there is no memory, or a row has words of 8
+    /// bytes, all rows lead as they are, which takes longer.
     pub fn new(alloc: Global, rows: &'a [Row], source: u32, target: u32) -> Landmarks<'a>
         ensures rows { result.rows.now ≡ rows.now }
         ensures target { result.target ≡ target }
@@ -248,9 +247,8 @@ impl<'a> Guide for Landmarks<'a> {
 }
 
 impl View {
-    /// The least length of a walk from `source` to `target` in the view's network, or nothing where no walk leads there, by a search that
-    /// the rows of the landmarks lead, or where there is no landmark one that just stops at the target. It keeps no row; its one error is
-    /// want of memory.
+    /// The least length of a walk from `source` to `target` in the view's network, or nothing if no walk leads there. The search is led by the rows of the
+    /// landmarks; if there is no landmark, it just stops at the target. It keeps no row. Its only error is lack of memory.
     pub(crate) fn distance_in<T: Team>(
         &self,
         alloc: Global,

@@ -1,4 +1,4 @@
-//! What the rows of a view's landmarks tell.
+//! Replies from the rows of a view's landmarks.
 
 ghost use Rattle.rows.specs.declared.queries.Query.TheVariants.{From, Lower};
 ghost use Rattle.rows.specs.Replies.{IsRight};
@@ -9,7 +9,7 @@ use crate::queries::{Query, Reply};
 use crate::views::View;
 
 impl View {
-    /// The reply to `From`, by the landmark's row. It takes no memory.
+    /// The reply to `From`, from the landmark's row. It takes no memory.
     ///
     /// In the network of `examples/six.gr` with the landmark 3, from 3 to 4 it is `Length(2)`, from 3 to 1 `NoWalk`, and from 1 to 4
     /// `Refused(NotALandmark)`.
@@ -24,7 +24,7 @@ impl View {
         distance_in(&row.distances, target)
     }
 
-    /// The reply to `Lower`, by the rows of all landmarks, each read once. It takes no memory.
+    /// The reply to `Lower`, from the rows of all landmarks, each read once. It takes no memory.
     ///
     /// In the network of `examples/six.gr` with the landmark 3, whose row has 0 for node 5 and 5 for node 6, from 5 to 6 it is `AtLeast(5)`;
     /// from 5 to 1 it is `NoWalk`, since 3 reaches 5 and not 1.

@@ -21,7 +21,7 @@ pub struct Row {
 }
 
 impl Row {
-    /// The row of a node by delta-stepping with the given team. Its one error is want of memory, for what `deltastep::row` takes.
+    /// The row of a node by delta-stepping with the given team. Its only error is lack of memory, for what `deltastep::row` takes.
     pub fn build<T: Team>(
         alloc: Global,
         version: u64,

@@ -1,4 +1,4 @@
-//! Queries of a road network, and right replies to them.
+//! Queries of a road network, and the right replies to them.
 #![tactic(auto)]
 
 mod answers;
@@ -6,7 +6,7 @@ mod askers;
 mod asking;
 mod batches;
 mod bounds;
-mod caches;
+mod cached;
 mod ends;
 mod guides;
 mod landmark_replies;
@@ -26,9 +26,9 @@ mod views;
 
 pub use answers::{answer_plain, distance_in};
 pub use askers::Asker;
-pub use caches::{DEFAULT_ROWS, RowCache};
 pub use ends::Ends;
 pub use guides::{Landmarks, laws_of_potentials};
+pub use kept_rows::{DEFAULT_ROWS, RowCache};
 pub use landmark_rows::Row;
 pub use laws::{laws_of_bounds, laws_of_replies};
 pub use nearby::Near;

@@ -1,9 +1,9 @@
-//! What lies near a node.
+//! What is near a node.
 
 ghost use Rattle.std.specs.Prelude.{◌≡◌, min};
 ghost use Rattle.rows.specs.Nearby.{node_of, most_asked};
 
-/// What is asked of the nodes near one. Any numbers may stand in it.
+/// A question about the nodes near a node. It may contain any numbers.
 #[derive(Clone, Copy, Debug, PartialEq, Eq)]
 pub enum Near {
     /// All nodes that walks from `source` reach within `limit`.
@@ -15,7 +15,7 @@ pub enum Near {
 }
 
 impl Near {
-    /// The node that it is asked of.
+    /// The node that the question is about.
     pub fn node(self) -> u64
         ensures { result ≡ node_of self }
     {
@@ -26,7 +26,7 @@ impl Near {
         }
     }
 
-    /// Whether it is asked over the arcs turned round.
+    /// Whether the answer needs the reversed arcs.
     pub fn is_turned(self) -> bool {
         matches!(
             self,
@@ -38,7 +38,7 @@ impl Near {
     }
 }
 
-/// So many, as a search takes it.
+/// The count, as a search takes it.
 pub(crate) fn count_of(count: u64) -> u32
     ensures { result ≡ min count most_asked }
 {

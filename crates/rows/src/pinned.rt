@@ -1,5 +1,5 @@
 ghost use Rattle.std.specs.Prelude.{◌≡◌, ℕ, [], None, IfOk, IsOk, IsSome, OnErr};
-ghost use Rattle.rows.specs.Cached.{KeepsOthers, HasRowsOf, HasUsed, capacity_of, row_kept, rows_of};
+ghost use Rattle.kept_rows.specs.Cached.{KeepsOthers, HasRowsOf, HasUsed, capacity_of, row_kept, rows_of};
 ghost use Rattle.rows.specs.Replies.{IsRight, refusal_of};
 ghost use Rattle.rows.specs.Views.{AreRight};
 ghost use Rattle.rows.specs.Pins.{viewed, cached, HasOwnRows, HasAnswered, IsSamePin};
@@ -7,10 +7,10 @@ ghost use Rattle.rows.specs.declared.queries.Query.TheVariants.{Dist, From, Lowe
 
 use crate::answers::reply_by;
 use crate::batches::replies_to;
-use crate::caches::RowCache;
 use crate::ends::Numbers;
 use crate::queries::{Query, Reply};
 use crate::views::View;
+use kept_rows::RowCache;
 use roadnet::OutOfMemory;
 use std::alloc::Global;
 use std::thread::Threads;
@@ -47,7 +47,7 @@ impl<'a> Pinned<'a> {
         view.width()
     }
 
-    /// The reply to `From`, by the landmark's row, as `View::from_landmark` gives it. It takes no memory.
+    /// The reply to `From`, from the landmark's row, as `View::from_landmark` gives it. It takes no memory.
     pub fn from_landmark(&self, landmark: u64, target: u64) -> Reply
         ensures { IsRight (viewed self.now).network (From landmark target) result }
     {
@@ -55,7 +55,7 @@ impl<'a> Pinned<'a> {
         view.from_landmark(landmark, target)
     }
 
-    /// The reply to `Lower`, by the rows of all landmarks, as `View::lower` gives it. It takes no memory.
+    /// The reply to `Lower`, from the rows of all landmarks, as `View::lower` gives it. It takes no memory.
     pub fn lower(&self, source: u64, target: u64) -> Reply
         ensures { IsRight (viewed self.now).network (Lower source target) result }
     {
@@ -63,8 +63,8 @@ impl<'a> Pinned<'a> {
         view.lower(source, target)
     }
 
-    /// The reply to `Dist`, by a row of the cache, or by a new one, which the cache then keeps where memory is there for it. The one
-    /// error is want of memory for a new row, and then what the cache keeps stays as it was; a refused query takes none.
+    /// The reply to `Dist`, from a row of the cache, or from a new one, which the cache then keeps if there is memory for it. The only error is lack of
+    /// memory for a new row; then what the cache keeps stays as it was. A refused query takes none.
     ///
     /// In the network of `examples/six.gr`, from 1 to 6 it is `Length(15)`, from 6 to 1 `NoWalk`, and from 1 to 7 `Refused(NoSuchNode)`.
     pub fn dist<R: Threads>(
@@ -101,8 +101,8 @@ impl<'a> Pinned<'a> {
     }
 
     /// The replies to `Dist` for pairs of a source and a target, in their order, each as `dist` gives it. Whatever the order, each source whose row is not
-    /// kept is searched once, or, where these are fewer, each target over the arcs turned round; up to four searches are made side by side. The one error
-    /// is want of memory, for 20 bytes a pair, a flag a node and a row; rows of sources that were made by then may be kept.
+    /// kept is searched once; or, if there are fewer targets, each target is, over the reversed arcs. Up to four searches are made side by side. The only
+    /// error is lack of memory, for 20 bytes a pair, a flag a node and a row; rows of sources that were made by then may be kept.
     ///
     /// In the network of `examples/six.gr`, the pairs (1, 6) and (6, 1) give `Length(15)` and `NoWalk`.
     pub fn batch<R: Threads>(
@@ -133,8 +133,7 @@ impl<'a> Pinned<'a> {
         )
     }
 
-    /// The reply to a query. The one error is want of memory for the row of `Dist`, and then what the cache keeps stays as it was; a refused
-    /// query takes none.
+    /// The reply to a query. The only error is lack of memory for the row of `Dist`; then what the cache keeps stays as it was. A refused query takes none.
     ///
     /// In the network of `examples/six.gr` with the landmark 3, `Dist { source: 1, target: 6 }` is `Length(15)`, `From { landmark: 3, target: 4 }`
     /// `Length(2)` and `Lower { source: 5, target: 6 }` `AtLeast(5)`.

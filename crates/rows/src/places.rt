@@ -1,10 +1,10 @@
-//! In which order the pairs of a batch are answered. It is a matter of speed alone: each order gives the same replies.
+//! The order in which the pairs of a batch are answered. It only affects speed: each order gives the same replies.
 
 ghost use Rattle.std.specs.Prelude.{◌≡◌, ◌≤◌, length, IfOk, IfSome};
 ghost use Rattle.rows.specs.Batches.{ArePlaces, AreNodes};
 
-use crate::caches::RowCache;
 use crate::ends::{Ends, Turned};
+use kept_rows::RowCache;
 use roadnet::OutOfMemory;
 use snapshot::Snapshot;
 use std::alloc::Global;
@@ -47,8 +47,7 @@ fn node_of(snapshot: &Snapshot, number: u64) -> Option<u32>
     }
 }
 
-/// How many searches the pairs need: one for each of their sources that is a node and has no row that is kept. The one error is want of memory, for a flag
-/// a node.
+/// How many searches the pairs need: one for each of their sources that is a node and has no kept row. The only error is lack of memory, for a flag a node.
 fn searches_of<E: Ends>(
     alloc: Global,
     version: u64,
@@ -71,8 +70,8 @@ fn searches_of<E: Ends>(
     Ok(count)
 }
 
-/// Whether the pairs need fewer searches from their targets, of which no row is kept, than from their sources. It says no where no memory is there to
-/// count them.
+/// Whether the pairs need fewer searches from their targets, for which no row is kept, than from their sources. It is false if there is no memory to count
+/// them.
 pub(crate) fn has_fewer_targets<E: Ends>(
     alloc: Global,
     version: u64,
@@ -91,8 +90,8 @@ pub(crate) fn has_fewer_targets<E: Ends>(
     }
 }
 
-/// The next sources of the pairs at these places, ascending by their sources: so many as the cache keeps rows, or fewer, each a node. Behind them: how
-/// many of the places they serve.
+/// The next sources of the pairs at these places, in ascending order: as many as the cache keeps rows, or fewer, each a node. Also how many of the places
+/// they serve.
 pub(crate) fn next_sources<E: Ends>(
     alloc: Global,
     snapshot: &Snapshot,

@@ -2,14 +2,14 @@ ghost use Rattle.std.specs.Prelude.{◌≡◌};
 
 use roadnet::Refusal;
 
-/// A question to a network. Any numbers may stand in one.
+/// A question to a network. It may contain any numbers.
 #[derive(Clone, Copy, Debug, PartialEq, Eq)]
 pub enum Query {
     /// The least length of a walk from `source` to `target`.
     Dist { source: u64, target: u64 },
-    /// The same, from a node that has to be a landmark.
+    /// The same, from a node that must be a landmark.
     From { landmark: u64, target: u64 },
-    /// What the landmarks tell of the walks from `source` to `target`: how long each is at least, or that there is none.
+    /// What the landmarks say of the walks from `source` to `target`: how long each is at least, or that there is none.
     Lower { source: u64, target: u64 },
 }
 
@@ -51,8 +51,8 @@ pub enum Reply {
     Length(u64),
     /// There is no walk.
     NoWalk,
-    /// To `Lower` alone: each walk is at least so long.
+    /// Only to `Lower`: each walk is at least so long.
     AtLeast(u64),
-    /// 24 where one of the two is no node, else 26 where the first node of `From` is no landmark.
+    /// 24 if one of the two is not a node; otherwise 26 if the first node of `From` is not a landmark.
     Refused(Refusal),
 }

@@ -13,12 +13,12 @@ ghost use Rattle.rows.specs.Kept.{AreGroupsOf, IsWidth};
 use crate::answers::refusal_of;
 use crate::askers::Asker;
 use crate::batches::replies_to;
-use crate::caches::RowCache;
 use crate::ends::Ends;
 use crate::queries::{Query, Reply};
 use crate::turning::turned_groups;
 use crate::views::width_of;
 use deltastep::Workspace;
+use kept_rows::RowCache;
 use relax::{CHUNK, Crew};
 use roadnet::{Network, OutOfMemory};
 use snapshot::Snapshot;
@@ -28,8 +28,8 @@ use std::thread::Threads;
 /// The version of a network that is asked once.
 const VERSION: u64 = 0;
 
-/// How networks are asked once: by buckets of this width, or where none is given of the network's default, and with up to so many rows at once. Each call
-/// groups the network's open arcs, 8 bytes an open arc and 8 a node.
+/// How networks are asked once: with buckets of this width, or with the network's default if none is given, and with up to so many rows at once. Each call
+/// groups the network's open arcs, with 8 bytes an open arc and 8 a node.
 #[derive(Clone, Copy)]
 pub struct Searches {
     delta: Option<u32>,
@@ -40,7 +40,7 @@ pub struct Searches {
 }
 
 impl Searches {
-    /// `delta`, 1 to 2147483647, is the width of the buckets. Up to `rows` rows are there at once, 1 to 64, of 4 or 8 bytes a node.
+    /// `delta`, 1 to 2147483647, is the width of the buckets. Up to `rows` rows, 1 to 64, exist at once, of 4 or 8 bytes a node.
     pub fn new(delta: Option<u32>, rows: u32) -> Searches
         requires delta { ForSome delta IsWidth }
         requires rows { (1 ≤ rows) × (rows ≤ 64) }
@@ -57,14 +57,14 @@ impl Searches {
         self.delta
     }
 
-    /// The network's open arcs, grouped. The one error is want of memory.
+    /// The network's open arcs, grouped. The only error is lack of memory.
     pub fn group(&self, alloc: Global, network: &Network) -> Result<Snapshot, OutOfMemory>
         ensures { IfOk result (AreGroupsOf network.now self.now.delta) }
     {
         Snapshot::build(alloc, network, width_of(network, self.delta))
     }
 
-    /// The same of the arcs the other way round, as `turned_groups` gives them.
+    /// The same for the arcs the other way round, as `turned_groups` gives them.
     pub fn turn(&self, alloc: Global, network: &Network) -> Result<Snapshot, OutOfMemory>
         ensures network { OnOk result (IsNetwork network.now) }
         ensures arcs { IfOk result (IsSnapshotOf (reversed network.now)) }
@@ -72,7 +72,7 @@ impl Searches {
         turned_groups(alloc, network, width_of(network, self.delta))
     }
 
-    /// The reply to `Dist`, by a search that ends at the target. The one error is want of memory for groups or search; a refused query takes none.
+    /// The reply to `Dist`, by a search that ends at the target. The only error is lack of memory for groups or search; a refused query takes none.
     ///
     /// In the network of `examples/six.gr`, from 1 to 6 it is `Length(15)`.
     pub fn distance<R: Threads>(
@@ -102,10 +102,10 @@ impl Searches {
         )
     }
 
-    /// The replies to `Dist` for pairs, in their order. Whatever the order, each source is searched once, or, where these are fewer, each target over the arcs
-    /// turned round; up to four searches are made side by side.
+    /// The replies to `Dist` for pairs, in their order. Whatever the order, each source is searched once; or, if there are fewer targets, each target is,
+    /// over the reversed arcs. Up to four searches are made side by side.
     ///
-    /// The one error is want of memory, for the groups, 20 bytes a pair, a flag a node and a row.
+    /// The only error is lack of memory, for the groups, 20 bytes a pair, a flag a node and a row.
     ///
     /// In the network of `examples/six.gr`, the pairs (1, 6) and (6, 1) give `Length(15)` and `NoWalk`.
     pub fn batch<R: Threads, E: Ends>(

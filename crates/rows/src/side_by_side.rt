@@ -4,10 +4,10 @@ ghost use Rattle.std.specs.Prelude.{◌≡◌, ◌≤◌, All, IfOk};
 ghost use Rattle.roadnet.specs.Net.{Net};
 ghost use Rattle.snapshot.specs.Groups.{IsSnapshotOf};
 ghost use Rattle.rows.specs.Batches.{IsRowOfOne, AreNodes};
-ghost use Rattle.rows.specs.Cached.{KeepsOthers, HasRowsOf, HasNoNewRow, capacity_of};
+ghost use Rattle.kept_rows.specs.Cached.{KeepsOthers, HasRowsOf, HasNoNewRow, capacity_of};
 
-use crate::caches::RowCache;
 use deltastep::{Distances, Workspace, row_in};
+use kept_rows::RowCache;
 use rayon::prelude::*;
 use relax::{Permit, Solo};
 use roadnet::OutOfMemory;
@@ -15,7 +15,7 @@ use snapshot::Snapshot;
 use std::alloc::{AllocError, Global};
 use std::thread::Threads;
 
-/// How many threads make rows side by side at most.
+/// The most threads that make rows side by side.
 const WORKERS: usize = 4;
 
 /// The rows of nodes, one after the other, each beside its node.
@@ -40,7 +40,7 @@ fn one_by_one(
     Ok(rows)
 }
 
-/// The rows of nodes, in parts of so many: the parts are made side by side.
+/// The rows of nodes, in parts of so many nodes: the parts are made side by side.
 fn in_parts<R: Threads + Sync>(
     rt: &R,
     alloc: Global,
@@ -89,8 +89,9 @@ fn missing(
     Ok(missing)
 }
 
-/// Has the cache keep the rows of these nodes, where memory is there for them: those that it lacks are made side by side, by up to four threads. One row
-/// alone is left to the query that needs it, which shares it out. The one error is want of memory, and then it lacks what it lacked.
+/// Makes the cache keep the rows of these nodes, if there is memory for them. Those that it lacks are made side by side, by up to four threads. If it lacks
+/// one row alone, that is left to the query that needs it, whose search uses several threads. The only error is lack of memory; then it lacks what it
+/// lacked.
 pub(crate) fn fetch_rows<R: Threads>(
     rt: &R,
     alloc: Global,

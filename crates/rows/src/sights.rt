@@ -3,17 +3,16 @@ ghost use Rattle.rows.specs.declared.queries.Query.TheVariants.{From, Lower};
 ghost use Rattle.rows.specs.Replies.{refusal_of, IsRight};
 ghost use Rattle.rows.specs.Views.{AreRight};
 
-use crate::caches::{DEFAULT_ROWS, RowCache};
 use crate::queries::{Query, Reply};
 use crate::views::View;
+use kept_rows::{DEFAULT_ROWS, RowCache};
 use roadnet::OutOfMemory;
 use std::alloc::Global;
 use std::marker::Model;
 use std::sync::Arc;
 use std::thread::Threads;
 
-/// A view with the rows that queries of it made: up to 16, of 4 or 8 bytes a node. Whoever shows views, or looks at those that are shown,
-/// has one.
+/// A view with the rows that queries of it made: up to 16, of 4 or 8 bytes a node. Whoever shows views, or looks at shown views, has one.
 #[derive(Drop)]
 pub struct Sight {
     view: Arc<View>,
@@ -23,7 +22,7 @@ pub struct Sight {
 impl Model for Sight {
     ghost use Rattle.rows.specs.Views.{Viewed};
     ghost use Rattle.std.specs.Prelude.{◌≡◌};
-    ghost use Rattle.rows.specs.Cached.{capacity_of, HasRowsOf};
+    ghost use Rattle.kept_rows.specs.Cached.{capacity_of, HasRowsOf};
 
     ghost Value = { Viewed };
 
@@ -33,7 +32,7 @@ impl Model for Sight {
 }
 
 impl Sight {
-    /// No row is kept yet. It takes no memory.
+    /// A sight that keeps no row yet. It takes no memory.
     pub fn new(alloc: Global, view: Arc<View>) -> Sight
         ensures { result ≡ view.value }
     {
@@ -64,7 +63,7 @@ impl Sight {
         self.view.width()
     }
 
-    /// Another view, of any network. No row is kept.
+    /// Replaces the view by another, of any network. No row is kept.
     pub fn show(&mut self, view: Arc<View>)
         ensures { self.new ≡ view.value }
     {
@@ -72,7 +71,7 @@ impl Sight {
         self.view = view;
     }
 
-    /// Another view of the same history. The rows are kept where it is of the same version.
+    /// Replaces the view by another of the same history. The rows are kept if it is of the same version.
     pub fn look_at(&mut self, view: Arc<View>)
         requires { view.value.version ≡ self.old.version → view.value.network ≡ self.old.network }
         ensures { self.new ≡ view.value }
@@ -83,7 +82,7 @@ impl Sight {
         self.view = view;
     }
 
-    /// The reply to a query. The one error is want of memory for a row; a refused query takes none, nor does `From` or `Lower`.
+    /// The reply to a query. The only error is lack of memory for a row; a refused query takes none, nor does `From` or `Lower`.
     pub fn answer<R: Threads>(
         &mut self,
         rt: &R,

@@ -1,4 +1,4 @@
-//! The lengths of many pairs of nodes, or for what none is told.
+//! The lengths of many pairs of nodes, or why they are refused.
 
 ghost use Rattle.std.specs.Prelude.{◌≡◌, true, IfOk, IfErr, OnOk};
 ghost use Rattle.rows.specs.Nearby.{are_pairs, IsUntold};
@@ -7,9 +7,9 @@ ghost use Rattle.rows.specs.Views.{AreRight};
 
 use crate::askers::Asker;
 use crate::batches::replies_to;
-use crate::caches::{DEFAULT_ROWS, RowCache};
 use crate::ends::Numbers;
 use crate::queries::Reply;
+use kept_rows::{DEFAULT_ROWS, RowCache};
 use roadnet::{Network, OutOfMemory, Refusal};
 use std::alloc::Global;
 use std::thread::Threads;
@@ -29,10 +29,10 @@ fn are_pairs(network: &Network, pairs: &[(u64, u64)]) -> bool
 }
 
 impl Asker<'_> {
-    /// The replies to `Dist` for pairs of a source and a target, in their order. Whatever the order, each source is searched once, or, where these are fewer,
-    /// each target over the arcs turned round, up to four side by side.
+    /// The replies to `Dist` for pairs of a source and a target, in their order. Whatever the order, each source is searched once; or, if there are fewer
+    /// targets, each target is, over the reversed arcs. Up to four are searched side by side.
     ///
-    /// Refused is a number that is no node's (24), and want of memory (11), for 36 bytes a pair, a flag a node and a row.
+    /// It fails with 24 for a number that is not a node's, and with 11 for lack of memory, for 36 bytes a pair, a flag a node and a row.
     ///
     /// In the network of `examples/six.gr`, the pairs (1, 6) and (6, 1) give `Length(15)` and `NoWalk`.
     pub fn table<R: Threads>(

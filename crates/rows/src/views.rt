@@ -8,13 +8,13 @@ ghost use Rattle.roadnet.specs.Walks.{RowOf};
 ghost use Rattle.rows.specs.Backs.{LeadsBack};
 ghost use Rattle.rows.specs.Kept.{IsWidth};
 ghost use Rattle.rows.specs.Views.{AreLandmarkRows};
-ghost use Rattle.rows.specs.Cached.{HasRowsOf};
+ghost use Rattle.kept_rows.specs.Cached.{HasRowsOf};
 ghost use Rattle.rows.specs.Pins.{viewed, cached, HasOwnRows};
 
 use crate::askers::Asker;
-use crate::caches::RowCache;
 use crate::landmark_rows::Row;
 use crate::pinned::Pinned;
+use kept_rows::RowCache;
 use relax::Team;
 use roadnet::{Network, OutOfMemory};
 use snapshot::{Snapshot, default_delta};
@@ -22,10 +22,10 @@ use std::alloc::Global;
 use std::marker::Model;
 use std::sync::Arc;
 
-/// A network at a version, made ready for queries: its open arcs are grouped, and there is a row for each of its landmarks.
+/// A network at a version, prepared for queries: its open arcs are grouped, and there is a row for each of its landmarks.
 ///
-/// Beside the network it takes 8 bytes an open arc, 8 a node for the groups, and 4 or 8 a node for each landmark; and 8 an arc and 8 a node for the arcs the
-/// other way round, where it was given them, which views share.
+/// Beside the network it takes 8 bytes an open arc, 8 a node for the groups, and 4 or 8 a node for each landmark. If it was given the arcs the other way
+/// round, which views share, these take 8 bytes an arc and 8 a node.
 #[derive(Drop)]
 pub struct View {
     version: u64,
@@ -50,7 +50,7 @@ impl Model for View {
     ghost invariant = { λ v. IsSnapshotOf v.network v.snapshot × AreLandmarkRows v.version v.network v.rows.items × ForSome v.back (λ back. LeadsBack v.network back.value) };
 }
 
-/// The width that is given, else the network's default.
+/// The given width, otherwise the network's default.
 pub(crate) fn width_of(network: &Network, delta: Option<u32>) -> u32
     requires { ForSome delta IsWidth }
     ensures width { result ≡ unwrap_or delta (default_width network.now) }
@@ -62,7 +62,7 @@ pub(crate) fn width_of(network: &Network, delta: Option<u32>) -> u32
     }
 }
 
-/// The rows of a network's landmarks, in their order. The one error is want of memory, and then no row is kept.
+/// The rows of a network's landmarks, in their order. The only error is lack of memory; then no row is kept.
 fn rows_of<T: Team>(
     alloc: Global,
     version: u64,
@@ -84,7 +84,7 @@ fn rows_of<T: Team>(
     Ok(rows)
 }
 
-/// Where a number stands in an ascending list that has it, by a binary search.
+/// The place of a number in an ascending list that has it, by a binary search.
 fn place_of(landmarks: &[u32], landmark: u32) -> usize
     requires ascending { IsStrictlyIncreasing landmarks.now }
     requires member { is_member landmark landmarks.now ≡ true }
@@ -98,13 +98,13 @@ fn place_of(landmarks: &[u32], landmark: u32) -> usize
 }
 
 impl View {
-    /// A view of a network at this version: its arcs are grouped, and the row of each landmark is made, by the given team. `delta`, 1
-    /// to 2147483647, is the width of the buckets; where none is given it is the network's default.
+    /// A view of a network at this version: its arcs are grouped, and the given team makes the row of each landmark. `delta`, 1 to 2147483647, is the width
+    /// of the buckets. If none is given, it is the network's default.
     ///
-    /// The one error is want of memory, and then the network is dropped with what was made of it.
+    /// The only error is lack of memory; then the network is dropped, with what was made of it.
     ///
-    /// Of the network of `examples/six.gr` with the landmarks 3 and 6 it has two rows: that of 3 has 2 for node 4 and nothing for node 1, that of 6
-    /// has nothing but 0 for node 6.
+    /// For the network of `examples/six.gr` with the landmarks 3 and 6, it has two rows. That of 3 has 2 for node 4 and nothing for node 1. That of 6 has 0
+    /// for node 6, and nothing else.
     pub fn build<T: Team>(
         alloc: Global,
         version: u64,
@@ -122,7 +122,7 @@ impl View {
         Ok(View::assemble(version, network, snapshot, rows))
     }
 
-    /// A view of its parts: the network's groups, and the rows of its landmarks at this version, in their order. It takes no memory.
+    /// A view made of its parts: the network's groups, and the rows of its landmarks at this version, in their order. It takes no memory.
     pub fn assemble(version: u64, network: Network, snapshot: Snapshot, rows: Vec<Row>) -> View
         requires snapshot { IsSnapshotOf network snapshot }
         requires rows { AreLandmarkRows version network rows.items }
@@ -148,7 +148,7 @@ impl View {
         }
     }
 
-    /// A share of the arcs of its network the other way round, where it has them. It is none too where no share of them is had.
+    /// A share of the arcs of its network the other way round, if it has them and a share can be made.
     pub fn back(&self) -> Option<Arc<Snapshot>>
         ensures { ForSome result (λ back. LeadsBack self.now.network back.value) }
     {
@@ -211,15 +211,15 @@ impl View {
         Some(self.row_of(node))
     }
 
-    /// Whoever asks this view. It takes no memory.
+    /// An asker of this view. It takes no memory.
     pub fn asker(&self) -> Asker<'_>
         ensures { result ≡ self.now }
     {
         Asker::of_view(self)
     }
 
-    /// Answers queries of this view. What the cache keeps for the view's version are rows of its network, and that stays so; it keeps
-    /// rows that queries make. It takes no memory.
+    /// A value that answers queries of this view. The cache must keep, for the view's version, only rows of its network; it keeps the rows that queries
+    /// make. It takes no memory.
     pub fn pinned<'a>(&'a self, cache: &'a mut RowCache) -> Pinned<'a>
         requires { HasRowsOf self.now.version self.now.network cache.old }
         ensures view { viewed result ≡ self.now }

@@ -3,4 +3,5 @@ pub mod Steps
 pub mod Greatest
 pub mod Pieces
 pub mod Grouping
+pub mod Narrowing
 pub mod Built

@@ -13,7 +13,7 @@ pub struct Leg {
     pub length: u32,
 }
 
-/// The two parts of the arcs of a node: a light arc is at most delta long, a heavy one is longer.
+/// The two parts of the arcs of a node: light arcs are at most delta long, heavy arcs are longer.
 #[derive(Clone, Copy, Debug, PartialEq, Eq)]
 pub enum Part {
     Light,

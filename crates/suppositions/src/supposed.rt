@@ -1,4 +1,4 @@
-//! A network with a group of commands carried out, for who supposes it.
+//! A network with a group of commands carried out, for whoever supposes it.
 
 ghost use Rattle.std.specs.Prelude.{◌≡◌, ◌↔◌, true, All, IsTrue, IfOk, IfErr, IsOk, IsSome, OnOk};
 ghost use Rattle.roadnet.specs.Batches.{MayRefuseBatch};
@@ -19,17 +19,17 @@ use std::array::from_ref;
 use std::marker::Model;
 use std::thread::Threads;
 
-/// A network that is supposed: a copy of one at some version, with a group of commands carried out. Whoever has it has it alone: what becomes of the network
-/// that it was made of changes nothing in it, and nothing that is asked of it changes anything elsewhere.
+/// A supposed network: a copy of a network at some version, with a group of commands carried out. Its owner does not share it: later changes of the
+/// original network do not change it, and questions to it change nothing elsewhere.
 ///
-/// It takes what a network takes, 8 bytes an open arc and 8 a node for the groups of its arcs, as much again for the arcs turned round, once it was asked what
-/// reaches a node, 4 or 8 a node for one row, that of a source that was asked twice, and the memory of a search. It has no rows of landmarks.
+/// It takes what a network takes; 8 bytes an open arc and 8 a node for the groups of its arcs; as much again for the reversed arcs, once it was asked what
+/// reaches a node; 4 or 8 a node for one row, that of a source that was asked twice; and the memory of a search. It has no rows of landmarks.
 #[derive(Drop)]
 pub struct Supposed {
     version: u64,
     network: Network,
     groups: Snapshot,
-    /// The open arcs the other way round, grouped, once they were asked for.
+    /// The open arcs the other way round, grouped, once they are needed.
     turned: Option<Snapshot>,
     rows: RowCache,
 }
@@ -38,7 +38,7 @@ impl Model for Supposed {
     ghost use Rattle.std.specs.Option.{ForSome};
     ghost use Rattle.roadnet.specs.Reversal.{reversed};
     ghost use Rattle.snapshot.specs.Groups.{IsSnapshotOf};
-    ghost use Rattle.rows.specs.Cached.{HasRowsOf};
+    ghost use Rattle.kept_rows.specs.Cached.{HasRowsOf};
     ghost use Rattle.suppositions.specs.Supposing.{Supposition};
 
     ghost Value = { Supposition };
@@ -64,13 +64,13 @@ fn has_nodes(network: &Network, nodes: &[u64]) -> bool
 }
 
 impl Supposed {
-    /// Supposes that the group is carried out, all of it, on the network of this version. `delta` is the width of the buckets of searches; below 1 it is 1, and
-    /// above 2147483647 that.
+    /// Supposes that the group is carried out, all of it, on the network of this version. `delta` is the width of the buckets of searches. Below 1 it
+    /// counts as 1, and above 2147483647 as that.
     ///
-    /// Refused is the first command of the group that is not admitted after those before it, with its refusal; and, where each is admitted, want of memory
-    /// (11). Then nothing is supposed, and for a group that is not admitted no memory was taken.
+    /// It fails with the refusal of the first command of the group that is not admitted after those before it; or, if all are admitted, for lack of memory
+    /// (11). Then nothing is supposed. For a group that is not admitted it takes no memory.
     ///
-    /// Of the network of `examples/six.gr`, `Close { arc: 7 }` supposes one in which the least length from 1 to 6 is 22 in place of 15.
+    /// For the network of `examples/six.gr`, `Close { arc: 7 }` supposes one in which the least length from 1 to 6 is 22 instead of 15.
     pub fn new(
         alloc: Global,
         version: u64,
@@ -94,7 +94,7 @@ impl Supposed {
         })
     }
 
-    /// The version of the network that it was made of.
+    /// The version of the network that it was copied from.
     pub fn version(&self) -> u64
         ensures { result ≡ self.now.version }
     {
@@ -115,9 +115,10 @@ impl Supposed {
         has_nodes(&self.network, nodes)
     }
 
-    /// The reply to `Dist` in the supposed network, as `rows::Asker::ask` gives it. The one error is want of memory for a search; a refused query takes none.
+    /// The reply to `Dist` in the supposed network, as `rows::Asker::ask` gives it. The only error is lack of memory for a search; a refused query takes
+    /// none.
     ///
-    /// Where arc 7 of `examples/six.gr` is supposed closed, from 1 to 6 it is `Length(22)`.
+    /// If arc 7 of `examples/six.gr` is supposed to be closed, from 1 to 6 it is `Length(22)`.
     pub fn dist<R: Threads>(
         &mut self,
         rt: &R,
@@ -133,10 +134,10 @@ impl Supposed {
         asker.ask(rt, alloc, &mut self.rows, source, target)
     }
 
-    /// The reply to `From` in the supposed network, by a search, since there is no row of the landmark. The one error is want of memory for it; a refused query
-    /// takes none.
+    /// The reply to `From` in the supposed network, by a search, since there is no row of the landmark. The only error is lack of memory for it; a refused
+    /// query takes none.
     ///
-    /// Where node 3 of `examples/six.gr` is supposed a landmark, from 3 to 4 it is `Length(2)`; from 1 to 4 it is `Refused(NotALandmark)`.
+    /// If node 3 of `examples/six.gr` is supposed to be a landmark, from 3 to 4 it is `Length(2)`, and from 1 to 4 `Refused(NotALandmark)`.
     pub fn from_landmark<R: Threads>(
         &mut self,
         rt: &R,
@@ -152,7 +153,7 @@ impl Supposed {
         asker.ask_from(rt, alloc, &mut self.rows, landmark, target)
     }
 
-    /// Has the arcs turned round, where this is asked over them, and memory is had for them.
+    /// Makes the reversed arcs, if this question needs them and there is memory for them.
     fn turn(&mut self, alloc: Global, near: Near)
         ensures { self.new ≡ self.old }
     {
@@ -162,12 +163,12 @@ impl Supposed {
         }
     }
 
-    /// The nodes near one in the supposed network, as `rows::Asker::near` tells them. The arcs turned round are made once.
+    /// The nodes near a node of the supposed network, as `rows::Asker::near` gives them. The reversed arcs are made once.
     ///
-    /// Refused are a node that is none (24), and want of memory (11).
+    /// It fails with 24 for a number that is not a node's, and with 11 for lack of memory.
     ///
-    /// Where arc 7 of `examples/six.gr` is supposed closed, and its nodes 2 and 3 landmarks, from 1 within 10 there are 1, 3 and 5, with the lengths 0, 10 and
-    /// 10; to 4 within 2 lead 2 and 4, with 2 and 0; and nearest to 1 is 3 at 10.
+    /// If arc 7 of `examples/six.gr` is supposed to be closed, and nodes 2 and 3 to be landmarks, from 1 within 10 there are 1, 3 and 5, with the lengths
+    /// 0, 10 and 10. 2 and 4 lead to 4 within 2, with 2 and 0. The landmark nearest to 1 is 3, at 10.
     pub fn near<R: Threads>(
         &mut self,
         rt: &R,
@@ -191,9 +192,9 @@ impl Supposed {
 
     /// The replies to `Dist` for pairs of a source and a target in the supposed network, in their order, as `rows::Asker::table` gives them.
     ///
-    /// Refused are a node that is none (24), and want of memory (11).
+    /// It fails with 24 for a number that is not a node's, and with 11 for lack of memory.
     ///
-    /// Where arc 7 of `examples/six.gr` is supposed closed, the pairs (1, 6), (1, 1), (6, 6) and (6, 1) give `Length(22)`, `Length(0)`, `Length(0)` and
+    /// If arc 7 of `examples/six.gr` is supposed to be closed, the pairs (1, 6), (1, 1), (6, 6) and (6, 1) give `Length(22)`, `Length(0)`, `Length(0)` and
     /// `NoWalk`.
     pub fn table<R: Threads>(
         &self,

@@ -1,8 +1,12 @@
-use Rattle.std.proofs.Common.{ℕ, List, ◌∷◌, Option, None, ap, sym, ◌∙◌}
-use Rattle.deltastep.proofs.Finishing.{RowOf-over}
+use Rattle.std.proofs.Common.{ℕ, List, Option}
+use Rattle.std.proofs.lemmas.Result.{IfOk-weaker}
+use Rattle.roadnet.specs.Net.{Net}
+use Rattle.roadnet.specs.Walks.{RowOf}
+use Rattle.snapshot.specs.Groups.{IsSnapshotOf}
+use Rattle.deltastep.specs.Search.{IsNarrowedOf}
 use Rattle.deltastep.proofs.stepping.row_in.Goals as goal
 
 pub returns : goal.returns
 returns g c = record {
-  row = λ net snapshot. RowOf-over net c.args.snapshot.now snapshot c.in_ok-over.ensures.grouped c.args.source c.in_ok-over.over.tentative c.in_ok-from_words.field-0 c.requires.node.0 c.requires.node.1 c.in_ok-over.ensures.state (sym c.into_parts-tentative.ensures.tentative ∙ (c.into_words.ensures.words ∙ ap (λ (l : List (Option ℕ)). None ∷ l) (sym c.in_ok-from_words.ensures)));
+  row = IfOk-weaker c.row_over.result (λ (row : List (Option ℕ)). (net : Net) → IsNarrowedOf net c.narrower-inner.result.now → RowOf net c.args.source row) (λ (row : List (Option ℕ)). (net : Net) → IsSnapshotOf net c.args.snapshot.now → RowOf net c.args.source row) (λ row has net is. has net (c.narrower-inner.ensures.narrowed net is)) c.row_over.ensures.row;
 }

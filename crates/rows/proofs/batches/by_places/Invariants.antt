@@ -1,5 +1,5 @@
 use Rattle.std.proofs.Common.{◌≡◌, length, take, All}
-use Rattle.rows.specs.Cached.{HasRowsOf, KeepsOthers, capacity_of}
+use Rattle.kept_rows.specs.Cached.{HasRowsOf, KeepsOthers, capacity_of}
 use Rattle.rows.proofs.Placing.{IsRightAt}
 use Rattle.rows.proofs.batches.by_places.Given as goal
 

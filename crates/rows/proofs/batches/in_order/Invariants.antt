@@ -1,6 +1,6 @@
 use Rattle.std.proofs.Common.{◌≡◌, take}
 use Rattle.rows.specs.Batches.{AreRightBy}
-use Rattle.rows.specs.Cached.{HasRowsOf, KeepsOthers, capacity_of}
+use Rattle.kept_rows.specs.Cached.{HasRowsOf, KeepsOthers, capacity_of}
 use Rattle.rows.proofs.batches.in_order.Given as goal
 
 abbrev pub invariant-loop-pair : goal.invariant-loop-pair

@@ -1,5 +1,6 @@
 use Rattle.std.proofs.Common.{◌≡◌, ◌∙◌, ◌+◌, ℕ, sym, subst, take, Some}
-use Rattle.rows.specs.Bounds.{IsBoundBy, told_by}
+use Rattle.rows.specs.Bounds.{IsBoundBy}
+use Rattle.kept_rows.specs.Told.{told_by}
 use Rattle.rows.proofs.Answered.{nodes_of_lower}
 use Rattle.rows.proofs.Bounded.{place_read}
 use Rattle.rows.proofs.LandmarkRows.{landmark_at}

@@ -1,6 +1,7 @@
 use Rattle.std.proofs.Common.{◌≡◌, ◌∙◌, ◌+◌, ◌<◌, ℕ, List, sym, subst, length, get_or, take, Some}
 use Rattle.roadnet.specs.Walks.{RowOf}
-use Rattle.rows.specs.Bounds.{IsBoundBy, told_by}
+use Rattle.rows.specs.Bounds.{IsBoundBy}
+use Rattle.kept_rows.specs.Told.{told_by}
 use Rattle.rows.proofs.Answered.{nodes_of_lower}
 use Rattle.rows.proofs.Bounded.{place_read}
 use Rattle.rows.proofs.bounds.plain_bound.Goals as goal

@@ -1,7 +1,7 @@
 use Rattle.std.proofs.Common.{◌≡◌, ◌∙◌, ◌++◌, ◌∷◌, [], All, ap, subst, sym, option_to_list}
 use Rattle.std.proofs.lemmas.List.Elements.{All-contains, Contains-push, All-take}
 use Rattle.rows.specs.Batches.{IsRowOfOne}
-use Rattle.rows.proofs.CacheRows.{still_rows}
+use Rattle.kept_rows.proofs.CacheRows.{still_rows}
 use Rattle.rows.proofs.side_by_side.fetch_rows.Goals as goal
 
 pub returns-in_err-missing-clause-kept : goal.returns-in_err-missing-clause-kept

@@ -3,7 +3,7 @@ use Rattle.std.specs.Prelude.{All}
 use Rattle.roadnet.specs.Net.{Net}
 use Rattle.snapshot.specs.Groups.{IsSnapshotOf}
 use Rattle.rows.specs.Batches.{IsRowOfOne}
-use Rattle.rows.specs.Cached.{HasRowsOf, KeepsOthers, capacity_of}
+use Rattle.kept_rows.specs.Cached.{HasRowsOf, KeepsOthers, capacity_of}
 use Rattle.rows.proofs.side_by_side.fetch_rows.Given as goal
 
 abbrev pub decreases-loop-rows : goal.decreases-loop-rows

@@ -1,6 +1,6 @@
 use Rattle.std.proofs.Common.{◌≡◌}
 use Rattle.rows.specs.Batches.{AreNodes}
-use Rattle.rows.specs.Cached.{HasNoNewRow, capacity_of}
+use Rattle.kept_rows.specs.Cached.{HasNoNewRow, capacity_of}
 use Rattle.rows.proofs.side_by_side.missing.Given as goal
 
 abbrev pub invariant-loop-source : goal.invariant-loop-source

@@ -7,7 +7,7 @@ returns-then-place-size c =
     let s = c.args.self.now in
     let n = length s.lists.items in
     let b = c.args.value / s.delta in
-    let at : s.first + c.buckets_between-ahead.result ≡ s.last % n + (b - s.last) = ap (λ k. k + c.buckets_between-ahead.result) s.begins ∙ ap (λ k. s.last % n + k) c.buckets_between-ahead.ensures in
+    let at : s.first + c.ahead-ahead.result ≡ s.last % n + (b - s.last) = ap (λ k. k + c.ahead-ahead.result) s.begins ∙ ap (λ k. s.last % n + k) c.ahead-ahead.ensures in
     at ∙ place_on s.last b n c.requires (omega (arith, at, c.if-place-size.true, c.size-size.ensures))
 
 pub returns-else-place-size : goal.returns-else-place-size
@@ -15,5 +15,5 @@ returns-else-place-size c =
     let s = c.args.self.now in
     let n = length s.lists.items in
     let b = c.args.value / s.delta in
-    let at : s.first + c.buckets_between-ahead.result ≡ s.last % n + (b - s.last) = ap (λ k. k + c.buckets_between-ahead.result) s.begins ∙ ap (λ k. s.last % n + k) c.buckets_between-ahead.ensures in
+    let at : s.first + c.ahead-ahead.result ≡ s.last % n + (b - s.last) = ap (λ k. k + c.ahead-ahead.result) s.begins ∙ ap (λ k. s.last % n + k) c.ahead-ahead.ensures in
     ap (λ k. k - c.size-size.result) at ∙ (ap (λ k. s.last % n + (b - s.last) - k) c.size-size.ensures ∙ place_round s.last b n s.some c.requires (omega (arith, at, c.if-place-size.false, c.size-size.ensures)))

@@ -1,10 +1,11 @@
-use Rattle.std.proofs.Common.{◌≡◌, ◌<◌, ◌≤◌, ◌++◌, [], ◌∷◌, ℕ, List, Option, Contains, All, get_or, length, refl, ap, subst, sym, ◌∙◌}
+use Rattle.std.proofs.Common.{◌≡◌, ◌<◌, ◌≤◌, ◌++◌, [], ◌∷◌, ℕ, List, Option, Contains, All, get_or, length, refl, ap, subst, sym, ◌∙◌, arith}
 use Rattle.std.proofs.lemmas.List.Elements.{Contains-get_or}
 use Rattle.frontier.specs.Entries.{TakesFirst, entries_at}
 use Rattle.std.specs.Global.{Vec}
 use Rattle.frontier.specs.Frontier.{TakesAny}
-use Rattle.frontier.specs.Live.{live_nodes, queued}
-use Rattle.frontier.proofs.Live.{AreEntriesOf-taken, AreEntriesOf-same, queued-none, queued-dead, TakesAny-taken, taken_nodes}
+use Rattle.frontier.specs.Live.{AreKept, live_nodes, queued}
+use Rattle.frontier.proofs.Bags.{AreKept-fewer, AreKept-same}
+use Rattle.frontier.proofs.Live.{AreEntriesOf-taken, queued-none, queued-dead, stays, TakesAny-taken, taken_nodes}
 use Rattle.frontier.proofs.lazy.LazyRing.take_entries.Goals as goal
 
 pub invariant_of-self : goal.invariant_of-self
@@ -12,7 +13,8 @@ invariant_of-self c =
     let s = c.args.self.now in
     record {
       none = ap (λ (l : Vec (ℕ × ℕ)). l.items) c.in_default.ensures.unused ∙ s.none;
-      stand = AreEntriesOf-same s.tentative s.ring.lists.items c.take.new.self.lists.items (λ p. ap (λ (l : Vec (Vec (ℕ × ℕ))). entries_at l.items p) c.in_default.ensures.none) s.stand;
+      kept = subst (λ (w : ℕ). AreKept s.tentative w s.bound c.take.new.self.lists.items s.bag.items) (sym c.take.ensures.width) (AreKept-same s.tentative s.ring.delta s.bound s.ring.lists.items s.bag.items s.kept c.take.new.self.lists.items (λ p. ap (λ (l : Vec (Vec (ℕ × ℕ))). entries_at l.items p) c.in_default.ensures.none));
+      room = omega (arith, s.room, c.in_default.ensures.last, c.take.ensures.size);
     }
 
 pub returns-in_default-clause-taken : goal.returns-in_default-clause-taken
@@ -25,7 +27,7 @@ add_live-added-requires c =
     let s = c.args.self.now in
     let takes : TakesFirst s.ring.delta s.ring.lists.items c.take.new.self.lists.items c.in-Some.bucket c.take.new.entries.items = c.in-Some.ensures.taken in
     record {
-      nodes = rw c.deref.ensures.value (λ k d lt. taken_nodes s.ring.delta s.ring.last c.in-Some.bucket s.ring.lists.items c.take.new.self.lists.items s.tentative c.take.new.entries.items c.take.ensures.size s.ring.within s.stand c.in-Some.ensures.far takes (get_or c.take.new.entries.items k d) (Contains-get_or c.take.new.entries.items k d lt));
+      nodes = rw c.deref.ensures.value (λ k d lt. taken_nodes s.ring.delta s.ring.last c.in-Some.bucket s.ring.lists.items c.take.new.self.lists.items s.tentative c.take.new.entries.items c.take.ensures.size s.ring.within s.kept.stand c.in-Some.ensures.far takes (get_or c.take.new.entries.items k d) (Contains-get_or c.take.new.entries.items k d lt));
     }
 
 pub invariant_of-self-2 : goal.invariant_of-self-2
@@ -34,7 +36,10 @@ invariant_of-self-2 c =
     let takes : TakesFirst s.ring.delta s.ring.lists.items c.take.new.self.lists.items c.in-Some.bucket c.take.new.entries.items = c.in-Some.ensures.taken in
     record {
       none = c.clear.ensures.items;
-      stand = AreEntriesOf-taken s.ring.delta s.ring.last c.in-Some.bucket s.ring.lists.items c.take.new.self.lists.items s.tentative c.take.new.entries.items c.take.ensures.size s.ring.within s.stand c.in-Some.ensures.far takes;
+      kept = subst (λ (w : ℕ). AreKept s.tentative w s.bound c.take.new.self.lists.items s.bag.items) (sym c.take.ensures.width) (AreKept-fewer s.tentative s.ring.delta s.bound s.ring.lists.items c.take.new.self.lists.items s.bag.items s.kept
+          (AreEntriesOf-taken s.ring.delta s.ring.last c.in-Some.bucket s.ring.lists.items c.take.new.self.lists.items s.tentative c.take.new.entries.items c.take.ensures.size s.ring.within s.kept.stand c.in-Some.ensures.far takes)
+          (λ p e there. (stays s.ring.delta s.ring.last c.in-Some.bucket s.ring.lists.items c.take.new.self.lists.items s.tentative c.take.new.entries.items c.take.ensures.size s.ring.within s.kept.stand c.in-Some.ensures.far takes p e there).0));
+      room = omega (arith, s.room, c.in-Some.ensures.far, c.in-Some.ensures.last, c.take.ensures.size);
     }
 
 pub returns-clause-taken : goal.returns-clause-taken
@@ -43,7 +48,7 @@ returns-clause-taken c some =
     let takes : TakesFirst s.ring.delta s.ring.lists.items c.take.new.self.lists.items c.in-Some.bucket c.take.new.entries.items = c.in-Some.ensures.taken in
     let is : c.add_live-added.new.nodes.items ≡ live_nodes s.tentative c.take.new.entries.items = c.in_ok-added.ensures.added ∙ (ap (λ (l : List ℕ). l ++ live_nodes s.tentative c.deref.result.now) c.requires.none ∙ ap (λ (l : List (ℕ × ℕ)). live_nodes s.tentative l) c.deref.ensures.value) in
     let there : 0 < length (live_nodes s.tentative c.take.new.entries.items) = subst (λ (l : List ℕ). 0 < length l) is some in
-    let was : TakesAny s.ring.delta (queued s.ring.delta s.ring.lists.items s.tentative) c.in-Some.bucket (live_nodes s.tentative c.take.new.entries.items) (queued s.ring.delta c.take.new.self.lists.items s.tentative) = TakesAny-taken s.ring.delta s.ring.last c.in-Some.bucket s.ring.lists.items c.take.new.self.lists.items s.tentative c.take.new.entries.items c.take.ensures.size s.ring.within s.stand c.in-Some.ensures.far takes there in
+    let was : TakesAny s.ring.delta (queued s.ring.delta s.ring.lists.items s.tentative) c.in-Some.bucket (live_nodes s.tentative c.take.new.entries.items) (queued s.ring.delta c.take.new.self.lists.items s.tentative) = TakesAny-taken s.ring.delta s.ring.last c.in-Some.bucket s.ring.lists.items c.take.new.self.lists.items s.tentative c.take.new.entries.items c.take.ensures.size s.ring.within s.kept.stand c.in-Some.ensures.far takes there in
     subst (λ w. TakesAny s.ring.delta (queued s.ring.delta s.ring.lists.items s.tentative) c.in-Some.bucket c.add_live-added.new.nodes.items (queued w c.take.new.self.lists.items s.tentative)) (sym c.take.ensures.width)
     (subst (λ (l : List ℕ). TakesAny s.ring.delta (queued s.ring.delta s.ring.lists.items s.tentative) c.in-Some.bucket l (queued s.ring.delta c.take.new.self.lists.items s.tentative)) (sym is) was)
 
@@ -53,4 +58,4 @@ returns-clause-dead c none =
     let takes : TakesFirst s.ring.delta s.ring.lists.items c.take.new.self.lists.items c.in-Some.bucket c.take.new.entries.items = c.in-Some.ensures.taken in
     let is : c.add_live-added.new.nodes.items ≡ live_nodes s.tentative c.take.new.entries.items = c.in_ok-added.ensures.added ∙ (ap (λ (l : List ℕ). l ++ live_nodes s.tentative c.deref.result.now) c.requires.none ∙ ap (λ (l : List (ℕ × ℕ)). live_nodes s.tentative l) c.deref.ensures.value) in
     ap (λ w. queued w c.take.new.self.lists.items s.tentative) c.take.ensures.width
-    ∙ queued-dead s.ring.delta s.ring.last c.in-Some.bucket s.ring.lists.items c.take.new.self.lists.items s.tentative c.take.new.entries.items c.take.ensures.size s.ring.within s.stand c.in-Some.ensures.far takes (sym is ∙ none)
+    ∙ queued-dead s.ring.delta s.ring.last c.in-Some.bucket s.ring.lists.items c.take.new.self.lists.items s.tentative c.take.new.entries.items c.take.ensures.size s.ring.within s.kept.stand c.in-Some.ensures.far takes (sym is ∙ none)

@@ -1,23 +1,43 @@
-use Rattle.std.proofs.Common.{◌≡◌, ◌<◌, ℕ, Some, Option, unwrap_or, length, ap, subst}
+use Rattle.std.proofs.Common.{◌≡◌, ◌<◌, ℕ, List, Some, Option, unwrap_or, length, set, subst, sym, arith}
 use Rattle.relax.specs.Values.{value_at}
-use Rattle.frontier.proofs.Live.{AreEntriesOf-lowered, AreEntriesOf-same, queued-lowered}
+use Rattle.frontier.specs.Live.{AreKept}
+use Rattle.frontier.proofs.Bags.{AreKept-lowered, AreKept-same, IsNowhere-lower, all_queued-lowered, is_at_most-lowered}
 use Rattle.frontier.proofs.lazy.LazyRingFrontier.lower.Goals as goal
 
 pub invariant_of-self : goal.invariant_of-self
 invariant_of-self c =
     let s = c.args.self.now in
-    record { none = s.none; stand = AreEntriesOf-same s.tentative s.ring.lists.items c.add.new.self.lists.items c.in_err-add.ensures.err s.stand }
+    let n = c.put.new.ring in
+    let same = c.in_err-put.ensures.err in
+    record {
+      none = s.none;
+      kept = subst (λ (w : ℕ). AreKept s.tentative w s.bound n.lists.items c.put.new.bag.items) (sym c.put.ensures.width)
+          (subst (λ (bag : List (ℕ × ℕ)). AreKept s.tentative s.ring.delta s.bound n.lists.items bag) (sym same.1)
+          (AreKept-same s.tentative s.ring.delta s.bound s.ring.lists.items s.bag.items s.kept n.lists.items same.0));
+      room = omega (arith, s.room, c.put.ensures.last, c.put.ensures.size);
+    }
 
 pub invariant_of-self-2 : goal.invariant_of-self-2
 invariant_of-self-2 c =
     let s = c.args.self.now in
+    let n = c.put.new.ring in
+    let t = set s.tentative c.args.node (Some c.args.value) in
     let lower : (x : ℕ) → value_at s.tentative c.args.node ≡ Some x → c.args.value < x = λ x e. subst (λ (o : Option ℕ). c.args.value < unwrap_or o c.args.top) e (subst (λ (o : Option ℕ). c.args.value < unwrap_or o c.args.top) c.get.ensures.value (c.is_lower.ensures.lower c.if-not-is_lower.false)) in
+    let within = c.requires.node.1 in
+    let before : AreKept t s.ring.delta s.bound s.ring.lists.items s.bag.items = AreKept-lowered s.tentative s.ring.delta s.bound s.ring.lists.items s.bag.items s.kept c.args.node c.args.value within lower in
+    let after : AreKept t s.ring.delta s.bound n.lists.items c.put.new.bag.items = c.put.ensures.kept t before (record {
+      node = c.requires.node.0;
+      above = is_at_most-lowered s.tentative s.ring.delta s.bound s.ring.lists.items s.bag.items s.kept c.args.node c.args.value within lower;
+      nowhere = IsNowhere-lower s.tentative s.ring.delta s.bound s.ring.lists.items s.bag.items s.kept c.args.node c.args.value within lower;
+    }) in
     record {
       none = s.none;
-      stand = rw c.set.ensures.set (AreEntriesOf-lowered s.ring.delta s.ring.lists.items c.add.new.self.lists.items s.tentative c.args.node c.args.value c.requires.node.1 c.add.ensures.size c.in_ok-add.ensures.ok s.stand c.requires.node.0 lower);
+      kept = rw c.set.ensures.set (subst (λ (w : ℕ). AreKept t w s.bound n.lists.items c.put.new.bag.items) (sym c.put.ensures.width) after);
+      room = omega (arith, s.room, c.put.ensures.last, c.put.ensures.size);
     }
 
 pub returns-clause-queued : goal.returns-clause-queued
 returns-clause-queued c =
     let s = c.args.self.now in
-    rw (c.set.ensures.set, c.add.ensures.width) (queued-lowered s.ring.delta s.ring.lists.items c.add.new.self.lists.items s.tentative c.args.node c.args.value c.requires.node.1 c.add.ensures.size c.in_ok-add.ensures.ok)
+    let lower : (x : ℕ) → value_at s.tentative c.args.node ≡ Some x → c.args.value < x = λ x e. subst (λ (o : Option ℕ). c.args.value < unwrap_or o c.args.top) e (subst (λ (o : Option ℕ). c.args.value < unwrap_or o c.args.top) c.get.ensures.value (c.is_lower.ensures.lower c.if-not-is_lower.false)) in
+    rw (c.set.ensures.set, c.put.ensures.width) (all_queued-lowered s.tentative s.ring.delta s.bound s.ring.lists.items s.bag.items s.kept c.args.node c.args.value c.requires.node.1 lower c.put.new.ring.lists.items c.put.new.bag.items (c.in_ok-put.ensures.dealt (set s.tentative c.args.node (Some c.args.value))))

@@ -1,9 +1,9 @@
 use Rattle.std.proofs.Common.{◌∙◌, ℕ, sym, subst}
 use Rattle.std.proofs.lemmas.Result.{IfOk-weaker}
 use Rattle.roadnet.specs.Net.{IsNode}
-use Rattle.rows.specs.Cached.{HasRowsOf}
+use Rattle.kept_rows.specs.Cached.{HasRowsOf}
 use Rattle.rows.specs.Replies.{IsDistance}
-use Rattle.rows.proofs.CacheRows.{same_rows}
+use Rattle.kept_rows.proofs.CacheRows.{same_rows}
 use Rattle.rows.proofs.askers.Asker.told.Goals as goal
 
 pub returns-then-is_wanted-clause-distance : goal.returns-then-is_wanted-clause-distance
@@ -19,8 +19,8 @@ returns-then-is_wanted-clause-kept g c =
     let net = c.args.self.now.network in
     let has = same_rows c.args.self.now.version c.args.cache.now c.is_wanted.new.self net c.is_wanted.ensures.rows c.requires.rows in
     let has' = subst (λ (v : ℕ). HasRowsOf v net c.is_wanted.new.self) (sym c.version-version.ensures) has in
-    subst (λ (v : ℕ). HasRowsOf v net c.distance.new.self) c.version-version.ensures (c.distance.ensures.kept net c.groups.ensures has')
+    subst (λ (v : ℕ). HasRowsOf v net c.distance.new.cache) c.version-version.ensures (c.distance.ensures.kept net c.groups.ensures has')
 
 pub returns-clause-kept : goal.returns-clause-kept
 returns-clause-kept g c =
-    same_rows c.args.self.now.version c.args.cache.now c.stopped.new.self c.args.self.now.network (c.stopped.ensures.rows ∙ c.is_wanted.ensures.rows) c.requires.rows
+    same_rows c.args.self.now.version c.args.cache.now c.stopped.new.cache c.args.self.now.network (c.stopped.ensures.rows ∙ c.is_wanted.ensures.rows) c.requires.rows

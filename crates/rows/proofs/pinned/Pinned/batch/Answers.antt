@@ -1,7 +1,7 @@
 use Rattle.std.proofs.Common.{ℕ, sym, subst}
 use Rattle.std.specs.Prelude.{IfOk}
 use Rattle.roadnet.specs.Net.{Net}
-use Rattle.rows.specs.Cached.{HasRowsOf}
+use Rattle.kept_rows.specs.Cached.{HasRowsOf}
 use Rattle.rows.specs.Views.{AreRight}
 use Rattle.rows.proofs.pinned.Pinned.batch.Goals as goal
 

@@ -1,6 +1,6 @@
 use Rattle.std.proofs.Common.{ℕ, sym, subst}
 use Rattle.roadnet.specs.Net.{Net}
-use Rattle.rows.specs.Cached.{HasRowsOf}
+use Rattle.kept_rows.specs.Cached.{HasRowsOf}
 use Rattle.rows.proofs.pinned.Pinned.dist.Goals as goal
 
 pub reply_by-requires-clause-rows : goal.reply_by-requires-clause-rows

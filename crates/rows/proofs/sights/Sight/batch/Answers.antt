@@ -1,6 +1,6 @@
 use Rattle.std.proofs.Common.{◌∙◌, ap, sym, subst}
 use Rattle.rows.specs.Views.{Viewed}
-use Rattle.rows.specs.Cached.{capacity_of, HasRowsOf}
+use Rattle.kept_rows.specs.Cached.{capacity_of, HasRowsOf}
 use Rattle.rows.proofs.sights.Sight.batch.Goals as goal
 
 pub pinned-pinned-requires : goal.pinned-pinned-requires

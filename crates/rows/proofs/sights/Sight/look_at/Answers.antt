@@ -1,9 +1,9 @@
 use Rattle.std.proofs.Common.{rules, ◌≡◌, ◌∙◌, ℕ, [], sym, ap, subst}
 use Rattle.roadnet.specs.Net.{Net}
 use Rattle.rows.specs.Views.{Viewed}
-use Rattle.rows.specs.declared.caches.RowCache.{RowCache}
-use Rattle.rows.specs.Cached.{capacity_of, HasRowsOf, rows_of}
-use Rattle.rows.proofs.CacheRows.{none_kept}
+use Rattle.kept_rows.specs.declared.caches.RowCache.{RowCache}
+use Rattle.kept_rows.specs.Cached.{capacity_of, HasRowsOf, rows_of}
+use Rattle.kept_rows.proofs.CacheRows.{none_kept}
 use Rattle.rows.proofs.sights.Sight.look_at.Goals as goal
 use Rattle.rows.proofs.sights.Sight.look_at.Goals.{then-version, else-version}
 

@@ -1,7 +1,7 @@
 use Rattle.std.proofs.Common.{sym, subst}
 use Rattle.rows.specs.Views.{Viewed}
-use Rattle.rows.specs.declared.caches.RowCache.{RowCache}
-use Rattle.rows.specs.Cached.{HasRowsOf}
+use Rattle.kept_rows.specs.declared.caches.RowCache.{RowCache}
+use Rattle.kept_rows.specs.Cached.{HasRowsOf}
 use Rattle.rows.proofs.views.View.pinned.Goals as goal
 
 pub returns-clause-own : goal.returns-clause-own

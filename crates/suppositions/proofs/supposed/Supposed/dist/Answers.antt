@@ -1,5 +1,5 @@
 use Rattle.std.proofs.Common.{sym, subst}
-use Rattle.rows.specs.Cached.{HasRowsOf}
+use Rattle.kept_rows.specs.Cached.{HasRowsOf}
 use Rattle.rows.specs.Views.{Viewed}
 use Rattle.suppositions.proofs.supposed.Supposed.dist.Goals as goal
 

@@ -1,0 +1,85 @@
+-- A search over legs that were narrowed is one over those from which they were.
+use Rattle.std.proofs.Common.{◌≡◌, ℕ, ◌+◌, ◌-◌, ◌*◌, ◌/◌, ◌^◌, ◌<◌, ◌≤◌, ◌⊎◌, List, [], ◌∷◌, length, Contains, Option, None, IsSome, refl, sym, ap, subst, ◌∙◌, inl, inr, arith}
+use Rattle.std.specs.FinMap.{get, empty}
+use Rattle.std.proofs.Math.Nat.{div-le_of_le-mul, mul-add, mul-le-mul_right}
+use Rattle.roadnet.specs.Net.{Net}
+use Rattle.roadnet.specs.Walks.{RowOf}
+use Rattle.snapshot.specs.Groups.{Groups, IsGrouped, IsNarrowed, IsSnapshotOf, legs_of}
+use Rattle.snapshot.specs.declared.legs.Leg.{Leg}
+use Rattle.snapshot.specs.declared.legs.Part.{Part}
+use Rattle.snapshot.specs.declared.legs.Part.TheVariants.{Light, Heavy}
+use Rattle.relax.specs.Values.{value_at, value_or}
+use Rattle.buckets.specs.Queue.{Entries}
+use Rattle.deltastep.specs.Search.{IsBetweenBuckets, IsFinal, IsNarrowedOf, IsRelaxed, IsRelaxedBut, Suits, Trip, ring_buckets, top_of}
+use Rattle.deltastep.proofs.Finishing.{RowOf-over}
+
+pub IsNarrowed-self : (groups : Groups) → IsNarrowed groups groups
+IsNarrowed-self groups = record { nodes = refl; delta = omega arith; greatest = refl; legs = λ part u. refl }
+
+pub IsNarrowedOf-of : (net : Net) (wide narrow : Groups) → IsGrouped wide → IsNarrowed wide narrow → IsSnapshotOf net wide → IsNarrowedOf net narrow
+IsNarrowedOf-of net wide narrow grouped is snapshot = record { wide = wide; grouped = grouped; snapshot = snapshot; narrowed = is }
+
+module _ (wide narrow : Groups) (is : IsNarrowed wide narrow) where
+  top_is : top_of narrow ≡ top_of wide
+  unfolding top_of
+  top_is = ap (λ n. (n - 1) * 2147483647 + 1) is.nodes
+
+  Trip-wide : (s t : ℕ) (legs : List Leg) → Trip narrow s t legs → Trip wide s t legs
+  Trip-wide s t [] trip = trip
+  Trip-wide s t (leg ∷ legs) (part, c, trip) = (part, subst (λ (ls : List Leg). Contains ls leg) (is.legs part s) c, Trip-wide leg.head t legs trip)
+
+  IsRelaxed-wide : (part : Part) (t : List (Option ℕ)) (u : ℕ) → IsRelaxed narrow part t u → IsRelaxed wide part t u
+  IsRelaxed-wide part t u relaxed leg c = subst (λ (top : ℕ). value_or top t leg.head ≤ value_or top t u + leg.length) top_is (relaxed leg (subst (λ (ls : List Leg). Contains ls leg) (sym (is.legs part u)) c))
+
+  IsRelaxedBut-wide : (part : Part) (t : List (Option ℕ)) (queue : Entries) → IsRelaxedBut narrow part t queue [] → IsRelaxedBut wide part t queue []
+  IsRelaxedBut-wide part t queue but u = elim (but u) as (λ _. IsSome (get queue u) ⊎ (Contains [] u ⊎ IsRelaxed wide part t u)) [
+    | inl queued ↦ inl queued
+    | inr rest ↦ inr (elim rest as (λ _. Contains [] u ⊎ IsRelaxed wide part t u) [
+      | inl owed ↦ inl owed
+      | inr relaxed ↦ inr (IsRelaxed-wide part t u relaxed)
+    ])
+  ]
+
+  pub IsBetweenBuckets-wide : (source : ℕ) (t : List (Option ℕ)) (queue : Entries) → IsBetweenBuckets narrow source t queue → IsBetweenBuckets wide source t queue
+  IsBetweenBuckets-wide source t queue between = record {
+    search = record {
+      places = between.search.places ∙ ap (λ n. n + 1) is.nodes;
+      node = between.search.node;
+      below_top = λ u x e. subst (λ (top : ℕ). x < top) top_is (between.search.below_top u x e);
+      queued = between.search.queued;
+      above = λ u x e. omega arith;
+    };
+    reached = record {
+      starts = between.reached.starts;
+      reached = λ u x e. let r = between.reached.reached u x e in record { legs = r.legs; trip = Trip-wide source u r.legs r.trip; long = r.long };
+    };
+    light = IsRelaxedBut-wide Light t queue between.light;
+    heavy = IsRelaxedBut-wide Heavy t queue between.heavy;
+  }
+
+  pub IsFinal-wide : (t : List (Option ℕ)) (queue : Entries) (v : ℕ) → IsFinal narrow t queue v → IsFinal wide t queue v
+  IsFinal-wide t queue v final u x e = subst (λ (top : ℕ). value_or top t v ≤ x) top_is (final u x e)
+
+-- a search that is over leaves the row of its source
+pub RowOf-narrowed : (net : Net) (groups : Groups) → IsNarrowedOf net groups → (source : ℕ) (t row : List (Option ℕ)) → 1 ≤ source → source ≤ groups.nodes → IsBetweenBuckets groups source t empty → t ≡ None ∷ row → RowOf net source row
+RowOf-narrowed net groups of source t row low high over is =
+    RowOf-over net of.wide of.snapshot of.grouped source t row low (subst (λ (n : ℕ). source ≤ n) of.narrowed.nodes high) (IsBetweenBuckets-wide of.wide groups of.narrowed source t empty over) is
+
+-- ---- a frontier in which all buckets fit
+
+ring_buckets-few : (g d : ℕ) → 1 ≤ d → ring_buckets g d ≤ g + 2
+ring_buckets-few g d positive =
+    let more : 1 * g ≤ d * g = mul-le-mul_right g positive in
+    let split : d * (g + 1) ≡ d * g + d * 1 = mul-add d g 1 in
+    let small : (g + (d - 1)) / d ≤ g + 1 = div-le_of_le-mul d (omega (arith, more, split)) in
+    omega (arith, small)
+
+pub Suits-endless : (groups : Groups) (entries : Entries) (accepts : ℕ → Type 0) (width span : ℕ) → IsGrouped groups → entries ≡ empty → accepts 0 → width ≡ groups.delta → span ≡ 2 ^ 64 → Suits groups entries accepts width span
+Suits-endless groups entries accepts width span grouped none first is endless = record {
+  empty = none;
+  first = first;
+  suited = record {
+    width = is;
+    window = let few : ring_buckets groups.greatest groups.delta ≤ groups.greatest + 2 = ring_buckets-few groups.greatest groups.delta grouped.delta in omega (arith, few, grouped.greatest, endless);
+  };
+}

@@ -1,0 +1,14 @@
+use Rattle.std.proofs.Common.{length, refl, sym}
+use Rattle.frontier.proofs.EntryLists.{AreInPlace-none}
+use Rattle.frontier.proofs.entries.EntryRing.begin_at.Goals as goal
+
+pub invariant_of-self : goal.invariant_of-self
+invariant_of-self c =
+    let s = c.args.self.now in
+    record {
+      positive = s.positive;
+      some = s.some;
+      begins = rw c.size.ensures refl;
+      marked = s.marked;
+      within = AreInPlace-none s.delta c.args.last s.lists.items c.requires.none;
+    }

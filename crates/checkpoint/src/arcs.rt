@@ -15,10 +15,10 @@ use pages::{ArcPage, Ends, Header, PAGE_SIZE, decode_arc_page};
 use roadnet::{Refusal, RoadArc};
 use std::alloc::{AllocError, Global};
 
-/// The arcs of a store by their numbers, with the ends that its arc pages spell. Each has length 0 and is open, until a slot's words are
-/// known. The first page that isn't spelled rightly is damaged. Nothing is changed.
+/// The arcs of a store by their numbers, with the ends from its arc pages. Each has length 0 and is open, until a slot's words are known. The first page
+/// that is not valid is reported as damaged. It changes nothing.
 ///
-/// Memory: 16 bytes an arc, taken once.
+/// It takes 16 bytes an arc, allocated once.
 pub fn read_arcs<D: Disk>(
     alloc: Global,
     disk: &mut D,
@@ -48,7 +48,7 @@ pub fn read_arcs<D: Disk>(
     Ok(arcs)
 }
 
-// Puts the arcs of the i-th arc page behind those before them.
+// Appends the arcs of the i-th arc page.
 fn take_page(
     alloc: Global,
     page: &[u8; PAGE_SIZE],
@@ -77,7 +77,7 @@ fn take_page(
     Ok(())
 }
 
-// Puts arcs of these ends behind those before them.
+// Appends arcs with these ends.
 fn put_arcs(ends: &[Ends], arcs: &mut Vec<RoadArc>) -> Result<(), AllocError>
     ensures { OnOk result (map ends_of arcs.new.items ≡ map ends_of arcs.old.items ++ ends.now) }
 {

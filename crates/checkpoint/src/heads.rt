@@ -13,8 +13,8 @@ use pages::{Header, PAGE_SIZE, Slot, SlotHead, decode_slot_head};
 use roadnet::Refusal;
 use std::alloc::Global;
 
-/// The current slot: the open one, or of two open ones that of the greater epoch. Damaged is the head of A where none is open, and the
-/// head of B where both have one epoch. Nothing is changed.
+/// The current slot: the open one, or, if both are open, the one of the greater epoch. If none is open, the head of A is damaged; if both have the same
+/// epoch, the head of B is. It changes nothing.
 pub fn choose<D: Disk>(disk: &mut D, header: &Header) -> Result<Slot, Refusal>
     requires file { HasFileOf D.Disk header.now disk.old }
     ensures slot { D.honest disk.old → IfOk result (λ slot. current_slot (page (D.content disk.old)) header.now ≡ Ok slot) }
@@ -32,7 +32,7 @@ pub fn choose<D: Disk>(disk: &mut D, header: &Header) -> Result<Slot, Refusal>
     greater(header, a, b)
 }
 
-// The slot of the greater epoch, of those of the slots that are open.
+// Of the open slots, the one of the greater epoch.
 fn greater(header: &Header, a: Option<u64>, b: Option<u64>) -> Result<Slot, Refusal>
     ensures slot { IsCurrentBy header.now a b result }
     ensures judges { JudgesToOpen result }
@@ -51,7 +51,7 @@ fn greater(header: &Header, a: Option<u64>, b: Option<u64>) -> Result<Slot, Refu
     }
 }
 
-/// The head of a slot. Nothing is changed.
+/// The head of a slot. It changes nothing.
 pub fn read_head<D: Disk>(
     alloc: Global,
     disk: &mut D,
@@ -72,7 +72,7 @@ pub fn read_head<D: Disk>(
     judge_head(alloc, &page, header, number)
 }
 
-// The head that the page of this number spells.
+// The head on the page of this number.
 fn judge_head(
     alloc: Global,
     page: &[u8; PAGE_SIZE],

@@ -15,8 +15,8 @@ use pages::{ARCS_A_PAGE, Ends, Header, PAGE_SIZE, Slot, decode_arc_page};
 use roadnet::{Refusal, RoadArc};
 use std::alloc::Global;
 
-/// Gives the arcs of a store that its arc pages don't have the ends that a slot's end pages spell. The first page that isn't spelled
-/// rightly is damaged. On the disk nothing is changed.
+/// For the arcs of a store that its arc pages do not have, sets the ends from a slot's end pages. The first page that is not valid is reported as damaged.
+/// It changes nothing on the disk.
 pub fn read_laid<D: Disk>(
     alloc: Global,
     disk: &mut D,
@@ -50,7 +50,7 @@ pub fn read_laid<D: Disk>(
     Ok(())
 }
 
-// Puts the ends of the i-th end page of a slot.
+// Sets the ends of the i-th end page of a slot.
 fn take_page(
     alloc: Global,
     page: &[u8; PAGE_SIZE],
@@ -85,7 +85,7 @@ fn take_page(
     Ok(())
 }
 
-// Puts these ends, one pair an arc, from the arc at this place on.
+// Sets these ends, one pair for each arc, from the arc at this place on.
 fn put_ends(ends: &[Ends], first: usize, arcs: &mut [RoadArc])
     requires { first + length ends.now ≤ length arcs.old }
     ensures ends { map ends_of (take (first + length ends.now) arcs.new) ≡ map ends_of (take first arcs.old) ++ ends.now }

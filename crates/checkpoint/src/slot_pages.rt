@@ -1,4 +1,4 @@
-// The pages of a slot that is written.
+// The pages of a slot that is being written.
 ghost use Rattle.std.specs.Prelude.{◌≡◌, ◌≢◌, ◌+◌, ◌*◌, ◌<◌, ◌≤◌, ◌^◌, ◌↔◌, ℕ, length, drop, OnOk};
 ghost use Rattle.disk.specs.Calling.{WritesUnsynced};
 ghost use Rattle.disk.specs.Contents.{overwritten};
@@ -23,7 +23,7 @@ pub fn gate_at(header: &Header, slot: Slot) -> u64
     PAGE_SIZE as u64 * header.head_page(slot) + GATE_AT as u64
 }
 
-/// The arcs of the `i`-th page, where a page has so many places.
+/// The arcs of the `i`-th page, if a page has so many places.
 pub fn part_of(arcs: &[RoadArc], i: u64, places: usize) -> &[RoadArc]
     requires { places ≤ 1023 }
     ensures { result.now ≡ part places i arcs.now }
@@ -44,7 +44,7 @@ fn put_page(buffer: &mut [u8], i: usize, bytes: &[u8; PAGE_SIZE])
     buffer[from..from + PAGE_SIZE].copy_from_slice(bytes);
 }
 
-/// The arcs behind the first ones, so many.
+/// The arcs after the first ones.
 fn behind(arcs: &[RoadArc], first: usize) -> &[RoadArc]
     ensures { result.now ≡ drop first arcs.now }
 {
@@ -66,7 +66,7 @@ fn ends_page(header: &Header, network: &Network, i: u64) -> [u8; PAGE_SIZE]
     encode_arc_page(part_of(laid, i, ARCS_A_PAGE))
 }
 
-/// The `i`-th page behind a slot's head.
+/// The `i`-th page after a slot's head.
 fn page_behind(header: &Header, network: &Network, i: u64) -> [u8; PAGE_SIZE]
     ensures { result ≡ slot_page header.now network.now i }
 {
@@ -78,7 +78,7 @@ fn page_behind(header: &Header, network: &Network, i: u64) -> [u8; PAGE_SIZE]
     }
 }
 
-/// Puts so many of the pages behind a slot's head, from the `first` on, at the front of the buffer.
+/// Puts so many of the pages after a slot's head, from the `first` on, at the front of the buffer.
 pub fn put_pages(buffer: &mut [u8], header: &Header, network: &Network, first: u64, count: usize)
     requires few { first + count ≤ 2 ^ 32 }
     requires room { page_size * count ≤ length buffer.old }
@@ -91,7 +91,7 @@ pub fn put_pages(buffer: &mut [u8], header: &Header, network: &Network, first: u
     }
 }
 
-/// Writes these pages behind a slot's head, from the `first` on.
+/// Writes these pages after a slot's head, from the `first` on.
 pub fn write_pages<D: Disk>(
     disk: &mut D,
     header: &Header,
@@ -112,7 +112,7 @@ pub fn write_pages<D: Disk>(
     disk.write_at(PAGE_SIZE as u64 * number, pages)
 }
 
-/// The number of the page at this place behind a slot's head.
+/// The number of the page at this place after a slot's head.
 fn slot_page_at(header: &Header, slot: Slot, i: u64) -> u64
     requires header { IsHeader header.now }
     requires within { i < slot_pages header.now }

@@ -28,8 +28,8 @@ pub struct Checkpoint {
     pub network: Network,
 }
 
-/// Reads a slot: its head, and then the words of the arcs, whose ends are known. The first page that isn't spelled rightly is damaged.
-/// Nothing is changed.
+/// Reads a slot: its head, and then the words of the arcs, whose ends are known. The first page that is not valid is reported as damaged. It changes
+/// nothing.
 pub fn load<D: Disk>(
     alloc: Global,
     disk: &mut D,
@@ -62,8 +62,8 @@ pub fn load<D: Disk>(
     })
 }
 
-// Gives the arcs of a store the words that a slot spells, and those behind the first ones their ends. The first page that isn't spelled rightly
-// is damaged. On the disk nothing is changed.
+// Gives the arcs of a store the words from a slot, and those after the first ones their ends. The first page that is not valid is reported as damaged. It
+// changes nothing on the disk.
 fn read_parts<D: Disk>(
     alloc: Global,
     disk: &mut D,
@@ -109,7 +109,7 @@ fn network_of(
     Ok(with_room(network, header.room))
 }
 
-// The same with no room besides.
+// The same, without room for more arcs.
 fn made_of(
     alloc: Global,
     header: &Header,
@@ -127,7 +127,7 @@ fn made_of(
     Network::new(alloc, header.nodes, arcs, head.landmarks())
 }
 
-// The network with this room, which is one for its arcs.
+// The network with this room, which is large enough for its arcs.
 fn with_room(network: Network, room: u32) -> Network
     requires { IsRoomFor network room }
     ensures { result ≡ record network { room = room } }
@@ -138,7 +138,7 @@ fn with_room(network: Network, room: u32) -> Network
     }
 }
 
-// Arcs whose ends and words aren't known yet, behind those before them, so that there are so many.
+// Appends arcs whose ends and words are not known yet, until there are so many.
 fn add_blank(arcs: &mut Vec<RoadArc>, count: u32) -> Result<(), AllocError>
     requires { length arcs.old.items ≤ count }
     ensures count { OnOk result (length arcs.new.items ≡ count) }

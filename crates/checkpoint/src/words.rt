@@ -15,8 +15,8 @@ use pages::{Header, PAGE_SIZE, Slot, WORDS_A_PAGE, Word, decode_word_page, words
 use roadnet::{Refusal, RoadArc};
 use std::alloc::Global;
 
-/// Gives the arcs of a store the lengths that a slot's word pages spell, and opens or closes each. The first page that isn't spelled
-/// rightly is damaged. On the disk nothing is changed.
+/// Gives the arcs of a store the lengths from a slot's word pages, and opens or closes each. The first page that is not valid is reported as damaged. It
+/// changes nothing on the disk.
 pub fn read_words<D: Disk>(
     alloc: Global,
     disk: &mut D,
@@ -47,7 +47,7 @@ pub fn read_words<D: Disk>(
     Ok(())
 }
 
-// Puts the words of the i-th word page of a slot.
+// Sets the words of the i-th word page of a slot.
 fn take_page(
     alloc: Global,
     page: &[u8; PAGE_SIZE],
@@ -78,7 +78,7 @@ fn take_page(
     Ok(())
 }
 
-// Puts these words, one an arc, from the arc at this place on.
+// Sets these words, one for each arc, from the arc at this place on.
 fn put_words(words: &[Word], first: usize, arcs: &mut [RoadArc])
     requires { first + length words.now ≤ length arcs.old }
     ensures words { map word_of (take (first + length words.now) arcs.new) ≡ map word_of (take first arcs.old) ++ words.now }

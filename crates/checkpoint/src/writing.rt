@@ -17,11 +17,11 @@ use std::marker::Model;
 
 const BUFFER_SIZE: usize = PAGES_AT_ONCE * PAGE_SIZE;
 
-/// A checkpoint that is being written to the slot that is not current: of the network that its calls are lent, the same in each, with
-/// the version and next sequence that it had at the beginning.
+/// A checkpoint that is being written to the slot that is not current. Its calls are all lent the same network, which is written with the version and next
+/// sequence that it had at the beginning.
 ///
-/// It is written by `begin`, by `write_part` while pages are left, and by `finish`. Between these calls the rest of the file may
-/// be written. After a failure of the disk nothing more may be written.
+/// It is written by `begin`, by `write_part` while pages are left, and by `finish`. Between these calls the rest of the file may be written. After a
+/// failure of the disk nothing more may be written.
 ///
 /// It takes a buffer of 256 KiB, and its calls take no memory.
 #[derive(Drop)]
@@ -30,7 +30,7 @@ pub struct NextCheckpoint {
     epoch: u64,
     version: u64,
     next_sequence: u64,
-    // How many of the pages behind the head are written.
+    // How many of the pages after the head are written.
     written: u64,
     // The pages of one write.
     buffer: Vec<u8>,
@@ -49,8 +49,8 @@ impl Model for NextCheckpoint {
 }
 
 impl NextCheckpoint {
-    /// The checkpoint behind the current one, which has this slot and this epoch: it goes to the other slot, with the next epoch. Nothing
-    /// of it is written.
+    /// The checkpoint after the current one, which has this slot and this epoch: it goes to the other slot, with the next epoch. Nothing of it is written
+    /// yet.
     pub fn new(
         alloc: Global,
         current: Slot,
@@ -100,22 +100,22 @@ impl NextCheckpoint {
         header.slot_pages().saturating_sub(self.written)
     }
 
-    /// Closes the slot's gate, and syncs, where it reads open. Where it reads closed nothing is written.
+    /// Closes the slot's gate if it reads open, and syncs. If it reads closed, nothing is written.
     ///
-    /// A sync stands before it: the content is all that a stop may leave.
+    /// A sync must precede it: a stop may leave only the content.
     pub fn begin<D: Disk>(&self, disk: &mut D, header: &Header) -> Result<(), DiskError>
         requires file { HasFileOf D.Disk header.now disk.old }
         requires at_rest { D.honest disk.old → Only (D.content disk.old) (D.left disk.old) }
-        // Of the content the gate alone may have changed, and it is closed.
+        // Only the gate may have changed in the content, and it is closed.
         ensures shut { D.honest disk.old → OnOk result (IsGateShut header.now self.now.slot (D.content disk.old) (D.content disk.new)) }
-        // A stop at any moment of the call leaves the content as it was, or with that gate closed.
+        // A stop during the call leaves the content as it was, or with that gate closed.
         ensures writes { Writes D.Disk (IsOldOrShut (D.content disk.old) (slot_gate header.now self.now.slot)) result disk.old disk.new }
     {
         close_gate(disk, gate_at(header, self.slot))
     }
 
-    /// Writes the next word pages and end pages of this network, in order, at most `max_pages` (1 to 64) of those that are left, in one write. A sync
-    /// follows where some are left then; else that of `finish` covers them.
+    /// Writes the next word pages and end pages of this network, in order and in one write: at most `max_pages` (1 to 64) of those that are left. If some
+    /// are then left, a sync follows; otherwise the sync of `finish` covers them.
     pub fn write_part<D: Disk>(
         &mut self,
         disk: &mut D,
@@ -131,11 +131,11 @@ impl NextCheckpoint {
         requires pages { D.honest disk.old → HoldsPages (page (D.content disk.old)) header.now self.old.slot network.now self.old.written }
         ensures written { OnOk result (self.new ≡ record self.old { written = min (self.old.written + max_pages) (slot_pages header.now) }) }
         ensures same { OnErr result (self.new ≡ self.old) }
-        // The slot holds the pages so far, its gate is closed, and the rest of the content is as it was.
+        // The slot has the pages so far, its gate is closed, and the rest of the content is as it was.
         ensures pages { D.honest disk.old → OnOk result (HoldsPages (page (D.content disk.new)) header.now self.old.slot network.now self.new.written) }
         ensures content { D.honest disk.old → OnOk result (IsSlotShut header.now self.old.slot (D.content disk.old) (D.content disk.new)) }
         ensures shut { D.honest disk.old → OnOk result (LeavesSlotShut header.now self.old.slot (D.content disk.new) (D.left disk.new)) }
-        // Where pages are left, the content is all that a stop may leave.
+        // If pages are left, a stop may leave only the content.
         ensures at_rest { D.honest disk.old → OnOk result (self.new.written < slot_pages header.now → Only (D.content disk.new) (D.left disk.new)) }
         ensures writes { WritesUnsynced D.Disk (IsSlotShut header.now self.old.slot (D.content disk.old)) result disk.old disk.new }
     {
@@ -157,7 +157,7 @@ impl NextCheckpoint {
         Ok(())
     }
 
-    /// Writes the head, syncs, opens the gate and syncs: the slot is whole then. All other pages of the slot are written before it; whether they are
+    /// Writes the head, syncs, opens the gate and syncs: then the slot is whole. All other pages of the slot must be written before; whether they are
     /// synced makes no difference.
     pub fn finish<D: Disk>(
         &self,
@@ -170,7 +170,7 @@ impl NextCheckpoint {
         requires shut { D.honest disk.old → LeavesSlotShut header.now self.now.slot (D.content disk.old) (D.left disk.old) }
         requires pages { D.honest disk.old → HoldsPages (page (D.content disk.old)) header.now self.now.slot network.now self.now.written }
         ensures content { D.honest disk.old → OnOk result (IsDraftWhole header.now self.now network.now (D.content disk.old) (D.content disk.new)) }
-        // A stop at any moment of the call leaves the slot with a closed gate, or whole, and the rest of the content as it was.
+        // A stop during the call leaves the slot with a closed gate, or whole, and the rest of the content as it was.
         ensures writes { Writes D.Disk (IsDraftShutOrWhole header.now self.now network.now (D.content disk.old)) result disk.old disk.new }
     {
         let page = encode_slot_head(
@@ -186,11 +186,11 @@ impl NextCheckpoint {
         open_gate(disk, gate_at(header, self.slot))
     }
 
-    /// Writes a part of what is left: the next word pages and end pages of this network, at most `max_pages` (1 to 64) in one write, with a sync behind
-    /// them where some are left then; else the head and the gate too, as `finish`. Answers whether the slot is whole. After a failure it is
-    /// as far as it was.
+    /// Writes a part of what is left: the next word pages and end pages of this network, at most `max_pages` (1 to 64) in one write. If some are then left,
+    /// a sync follows; otherwise it also writes the head and the gate, as `finish` does. Returns whether the slot is whole. After a failure the checkpoint
+    /// has come as far as before.
     ///
-    /// A sync stands before it: the content is all that a stop may leave.
+    /// A sync must precede it: a stop may leave only the content.
     pub fn go_on<D: Disk>(
         &mut self,
         disk: &mut D,
@@ -205,16 +205,16 @@ impl NextCheckpoint {
         requires at_rest { D.honest disk.old → Only (D.content disk.old) (D.left disk.old) }
         requires closed { D.honest disk.old → IsOpen (slot_gate header.now self.old.slot) (D.content disk.old) → ⊥ }
         requires pages { D.honest disk.old → HoldsPages (page (D.content disk.old)) header.now self.old.slot network.now self.old.written }
-        // The slot is whole where no more pages were left than this part may write.
+        // The slot is whole if no more pages were left than this part may write.
         ensures answers { IfOk result (λ whole. nat_lt max_pages (slot_pages header.now - self.old.written) ≡ not whole) }
         ensures part { IfOk result (λ whole. whole ≡ false → self.new ≡ record self.old { written = self.old.written + max_pages }) }
         ensures own { self.new ≡ record self.old { written = self.new.written } }
         ensures same { OnErr result (self.new ≡ self.old) }
-        // While it goes on, the slot holds the pages so far and its gate is closed.
+        // Until then the slot has the pages so far, and its gate is closed.
         ensures pages { D.honest disk.old → IfOk result (WhileGoing (HoldsPages (page (D.content disk.new)) header.now self.old.slot network.now self.new.written)) }
         ensures shut { D.honest disk.old → IfOk result (WhileGoing (IsSlotShut header.now self.old.slot (D.content disk.old) (D.content disk.new))) }
         ensures content { D.honest disk.old → IfOk result (OnceWhole (IsDraftWhole header.now self.old network.now (D.content disk.old) (D.content disk.new))) }
-        // A stop at any moment of the call leaves the slot with a closed gate, or whole, and the rest of the content as it was.
+        // A stop during the call leaves the slot with a closed gate, or whole, and the rest of the content as it was.
         ensures writes { Writes D.Disk (IsDraftShutOrWhole header.now self.old network.now (D.content disk.old)) result disk.old disk.new }
     {
         if self.pages_left(header) > u64::from(max_pages) {
@@ -252,7 +252,7 @@ impl NextCheckpoint {
         Ok(())
     }
 
-    // The pages that are left, and then as `finish`.
+    // Writes the pages that are left, and then finishes.
     fn write_all<D: Disk>(
         &mut self,
         disk: &mut D,
@@ -268,15 +268,15 @@ impl NextCheckpoint {
         requires pages { D.honest disk.old → HoldsPages (page (D.content disk.old)) header.now self.old.slot network.now self.old.written }
         ensures same { self.new ≡ record self.old { written = self.new.written } }
         ensures content { D.honest disk.old → OnOk result (IsDraftWhole header.now self.old network.now (D.content disk.old) (D.content disk.new)) }
-        // A stop at any moment of the call leaves the slot with a closed gate, or whole, and the rest of the content as it was.
+        // A stop during the call leaves the slot with a closed gate, or whole, and the rest of the content as it was.
         ensures writes { Writes D.Disk (IsDraftShutOrWhole header.now self.old network.now (D.content disk.old)) result disk.old disk.new }
     {
         self.write_parts(disk, header, network, max_pages)?;
         self.finish(disk, header, network)
     }
 
-    /// Writes all that is left: the word pages and end pages, at most `max_pages` (1 to 64) in a write, and then as `finish`. After a failure it is as
-    /// far as it was.
+    /// Writes everything that is left: the word pages and end pages, at most `max_pages` (1 to 64) in a write, and then as `finish` does. After a failure
+    /// the checkpoint has come as far as before.
     pub fn complete<D: Disk>(
         &mut self,
         disk: &mut D,
@@ -291,10 +291,10 @@ impl NextCheckpoint {
         requires shut { D.honest disk.old → LeavesSlotShut header.now self.old.slot (D.content disk.old) (D.left disk.old) }
         requires pages { D.honest disk.old → HoldsPages (page (D.content disk.old)) header.now self.old.slot network.now self.old.written }
         ensures same { self.new ≡ record self.old { written = self.new.written } }
-        // After a failure it is as far as it was.
+        // After a failure the checkpoint has come as far as before.
         ensures back { OnErr result (self.new ≡ self.old) }
         ensures content { D.honest disk.old → OnOk result (IsDraftWhole header.now self.old network.now (D.content disk.old) (D.content disk.new)) }
-        // A stop at any moment of the call leaves the slot with a closed gate, or whole, and the rest of the content as it was.
+        // A stop during the call leaves the slot with a closed gate, or whole, and the rest of the content as it was.
         ensures writes { Writes D.Disk (IsDraftShutOrWhole header.now self.old network.now (D.content disk.old)) result disk.old disk.new }
     {
         let written = self.written;

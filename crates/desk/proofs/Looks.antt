@@ -1,9 +1,8 @@
 -- Views of one desk.
-use Rattle.std.proofs.Common.{◌≡◌, ◌∙◌, ℕ, List, length, Option, Some, sym, ap, subst, arith}
+use Rattle.std.proofs.Common.{◌≡◌, ◌∙◌, List, length, Option, Some, sym, ap, subst, arith}
 use Rattle.std.specs.Prelude.{unwrap_or}
 use mathlib.Core.List.{IsPrefix}
 use Rattle.roadnet.specs.declared.groups.Group.{Group}
-use Rattle.roadnet.specs.Net.{Net}
 use Rattle.roadnet.specs.Step.{after}
 use Rattle.rows.specs.Views.{Viewed}
 use Rattle.history.specs.Origins.{Origin, Beginning}

@@ -19,7 +19,6 @@ use Rattle.keeper.specs.contracts.keepers.Keeper as Keeper
 use Rattle.keeper.specs.contracts.keepers.Keeper.TheInside as KeeperInside
 use Rattle.office.specs.contracts.offices.Office as Office
 use Rattle.office.specs.contracts.offices.Office.TheInside as OfficeInside
-use Rattle.desk.specs.contracts.locked.Locked as Locked
 use Rattle.desk.specs.contracts.held.Held as Held
 use Rattle.desk.specs.contracts.shelves.Shelf as Shelf
 use Rattle.desk.specs.contracts.shelves.Shelf.TheInside as ShelfInside
@@ -61,11 +60,8 @@ office_inside N n D d t s = search (held, sendable, crosses) depth 20
 pub office_send : (N : RattleType) (n : NamingGhosts N.Denot) (D : RattleType) (d : DiskGhosts D.Denot) → IsSend N → IsSend D → IsSend (Office.the_row N D n d)
 office_send N n D d t s = view_send _ _ _ _ _ (office_inside N n D d t s)
 
-locked_send : (O : RattleType) → IsSend O → IsSend (Locked.the_row O)
-locked_send O s = search (sendable, crosses) depth 20
-
 held_send : (O : RattleType) → IsSend O → IsSend (Held.the_row O)
-held_send O s = search (locked_send, sendable, crosses) depth 20
+held_send O s = search (sendable, crosses) depth 20
 
 shared_send : (O G : RattleType) → IsSend O → IsSend G → IsSend (Shared.the_row O G)
 shared_send O G s t = search (held_send, sendable, crosses) depth 20

@@ -9,10 +9,10 @@ use Rattle.machine.specs.Calls.{Submits}
 use Rattle.office.specs.Offices.{RunsFrom}
 use Rattle.desk.specs.declared.attempts.Attempt.{Attempt}
 use Rattle.desk.specs.declared.attempts.Attempt.TheVariants.{Done, NoMemory, Blocked, Failed}
-use Rattle.desk.specs.declared.locked.FlusherTurn.{FlusherTurn}
-use Rattle.desk.specs.declared.locked.FlusherTurn.TheVariants.{Rest, Flush, Checkpoint, End}
-use Rattle.desk.specs.declared.locked.BuilderTurn.{BuilderTurn}
-use Rattle.desk.specs.declared.locked.BuilderTurn.TheVariants.{Rest as rest, Build, End as end}
+use Rattle.desk.specs.declared.turns.FlusherTurn.{FlusherTurn}
+use Rattle.desk.specs.declared.turns.FlusherTurn.TheVariants.{Rest, Flush, Checkpoint, End}
+use Rattle.desk.specs.declared.turns.BuilderTurn.{BuilderTurn}
+use Rattle.desk.specs.declared.turns.BuilderTurn.TheVariants.{Rest as rest, Build, End as end}
 
 -- half of the journal's pages, or more, are unchecked
 abbrev pub is_checkpoint_due : Machine → Bool

@@ -1,19 +1,19 @@
-// What comes of the turns of a thread, how long it rests behind one, and when it gives up.
+// What a thread's attempts come to, how long it rests after one, and when it gives up.
 ghost use Rattle.std.specs.Prelude.{◌≡◌};
 ghost use Rattle.desk.specs.Turns.{attempt_of, misses_after, goes_on_after, rest_after};
 
 use roadnet::Refusal;
 
-/// How many attempts in a row found no memory before a thread gives up.
+/// After how many attempts in a row that found no memory a thread gives up.
 const MOST_MISSES: u32 = 3;
 
-/// How many milliseconds a thread rests behind an attempt that found no memory and followed one that did.
+/// How many milliseconds a thread rests after an attempt that found no memory, if the one before it did find some.
 const FIRST_REST: u64 = 10;
 
-/// How many it rests behind a further one.
+/// How many milliseconds it rests after each further one.
 const LATER_REST: u64 = 100;
 
-/// What came of a turn.
+/// The outcome of an attempt.
 #[derive(Clone, Copy, Debug, PartialEq, Eq)]
 pub(crate) enum Attempt {
     /// It is done, or there was nothing to do.
@@ -22,11 +22,11 @@ pub(crate) enum Attempt {
     NoMemory,
     /// The journal had no free page, and nothing has changed: a step of a checkpoint comes first.
     Blocked,
-    /// The disk has failed: there is nothing more to do.
+    /// The disk has failed: there is nothing left to do.
     Failed,
 }
 
-/// What a call came to that was refused so.
+/// The outcome of a call that was refused in this way.
 pub(crate) fn attempt_of(refusal: Refusal) -> Attempt
     ensures { result ≡ attempt_of refusal }
 {
@@ -38,7 +38,7 @@ pub(crate) fn attempt_of(refusal: Refusal) -> Attempt
     }
 }
 
-/// How many attempts of a thread found no memory, in a row up to now.
+/// How many attempts of a thread in a row have found no memory.
 #[derive(Clone, Copy)]
 pub(crate) struct Misses {
     count: u32,
@@ -52,8 +52,8 @@ impl Misses {
         Misses { count: 0 }
     }
 
-    /// Counts an attempt, and tells whether the thread goes on. One that was blocked counts for nothing: the step behind it may find no
-    /// memory either, and then the thread is to end after three of these.
+    /// Counts an attempt, and returns whether the thread goes on. A blocked attempt counts for nothing: the step after it may find no memory either, and
+    /// then the thread is to end after three such steps.
     pub(crate) fn goes_on(&mut self, attempt: Attempt) -> bool
         ensures count { self.new.count ≡ misses_after self.old.count attempt }
         ensures goes_on { result ≡ goes_on_after self.old.count attempt }
@@ -72,7 +72,7 @@ impl Misses {
         }
     }
 
-    /// How many milliseconds a thread rests behind this attempt, which is counted. A shortage that is shorter is survived.
+    /// How many milliseconds a thread rests after this attempt, which is counted. The thread survives a shorter lack of memory.
     pub(crate) fn rest(&self, attempt: Attempt) -> u64
         ensures { result ≡ rest_after self.now.count attempt }
     {

@@ -1,4 +1,4 @@
-//! What a desk that is served stands on, each in one word: whatever has the bounds.
+//! What a served desk is built on, one trait for each: whatever has the bounds.
 
 use crate::gates::Gate;
 use disk::Disk;
@@ -12,7 +12,7 @@ pub trait ServeRuntime: Threads + Wait + Clock + Copy + Send + Sync + 'static {}
 
 impl<R: Threads + Wait + Clock + Copy + Send + Sync + 'static> ServeRuntime for R {}
 
-/// A disk that the flusher may have.
+/// A disk that the flusher may own.
 pub trait ServedDisk: Disk + Drop + Send + 'static {}
 
 impl<D: Disk + Drop + Send + 'static> ServedDisk for D {}
@@ -22,7 +22,7 @@ pub trait ServedGate: Gate + Drop + Send + Sync + 'static {}
 
 impl<G: Gate + Drop + Send + Sync + 'static> ServedGate for G {}
 
-/// A name of a desk, by which tickets and receipts tell of which desk they are.
+/// A name of a desk, by which tickets and receipts show which desk they are of.
 pub trait ServedNaming: Naming + Send + Sync + 'static {}
 
 impl<N: Naming + Send + Sync + 'static> ServedNaming for N {}

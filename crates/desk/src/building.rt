@@ -4,37 +4,40 @@ ghost use Rattle.std.specs.Prelude.{◌≡◌};
 use crate::attempts::{Attempt, Misses};
 use crate::gates::Gate;
 use crate::last::Unbuilt;
-use crate::locked::{BuilderTurn, Locked};
 use crate::plans::Plan;
 use crate::shared::Shared;
+use crate::turns::BuilderTurn;
 use disk::Disk;
 use office::{Built, Naming, Office, Work};
 use std::sync::Wait;
 use std::thread::Threads;
 use std::time::Clock;
 
-impl<N: Naming, D: Disk> Locked<Office<N, D>> {
-    /// Shows what was built, or gives its task up and hands it back.
-    fn show<R: Wait>(&mut self, rt: &R, version: u64, built: Built) -> Option<Built>
-        requires { built.shown.origin ≡ N.origin }
-    {
-        match self.office.show(rt, built) {
-            Ok(_) => None,
-            Err((_, built)) => {
-                self.office.give_up(version);
-                Some(built)
-            }
+/// Shows what was built. If that fails, gives its task up and hands what was built back.
+fn show_or_give_up<N: Naming, D: Disk, R: Wait>(
+    rt: &R,
+    office: &mut Office<N, D>,
+    version: u64,
+    built: Built,
+) -> Option<Built>
+    requires { built.shown.origin ≡ N.origin }
+{
+    match office.show(rt, built) {
+        Ok(_) => None,
+        Err((_, built)) => {
+            office.give_up(version);
+            Some(built)
         }
     }
 }
 
 impl<N: Naming, D: Disk + Drop, G: Gate + Drop + Sync> Shared<Office<N, D>, G> {
-    /// Shows what was built, or gives its task up. What wasn't shown is let go behind the lock.
+    /// Shows what was built, or gives its task up. What was not shown is dropped after the lock is released.
     fn show<R: Wait>(&self, rt: &R, version: u64, built: Built) -> Attempt
         requires { built.shown.origin ≡ N.origin }
     {
-        let unshown = match &mut self.lock(rt).locked {
-            Some(locked) => locked.show(rt, version, built),
+        let unshown = match &mut self.lock(rt).office {
+            Some(office) => show_or_give_up(rt, office, version, built),
             None => return Attempt::Done,
         };
         self.published.notify_all();
@@ -44,8 +47,8 @@ impl<N: Naming, D: Disk + Drop, G: Gate + Drop + Sync> Shared<Office<N, D>, G> {
         }
     }
 
-    /// Builds the view of a work and shows it, or gives its task up. The work is let go behind the lock, once its view is shown: it has the view
-    /// before, and so that view is let go by nobody under the lock, and is there no longer than readers hold it.
+    /// Builds the view of a work and shows it, or gives its task up. The work is dropped after the lock is released, once its view is shown. It has the
+    /// earlier view: so nobody drops that under the lock, and it exists no longer than readers hold it.
     fn carry_out<R: Threads + Wait + Sync>(&self, rt: &R, plan: &Plan, work: Work) -> Attempt
         requires { work.origin ≡ N.origin }
     {
@@ -54,8 +57,8 @@ impl<N: Naming, D: Disk + Drop, G: Gate + Drop + Sync> Shared<Office<N, D>, G> {
             Ok(view) => return self.show(rt, version, work.built(view)),
             Err(unbuilt) => unbuilt,
         };
-        if let Some(locked) = &mut self.lock(rt).locked {
-            locked.office.give_up(version);
+        if let Some(office) = &mut self.lock(rt).office {
+            office.give_up(version);
         }
         match unbuilt {
             Unbuilt::OutOfMemory => Attempt::NoMemory,
@@ -63,13 +66,13 @@ impl<N: Naming, D: Disk + Drop, G: Gate + Drop + Sync> Shared<Office<N, D>, G> {
         }
     }
 
-    /// Takes a work, unless the gate holds it up, and carries it out.
+    /// Takes a work, unless the gate delays it, and carries it out.
     fn build<R: Threads + Wait + Sync>(&self, rt: &R, plan: &Plan, durable: u64) -> Attempt {
         if !self.gate.before_task(durable) {
             return Attempt::NoMemory;
         }
-        let taken = match &mut self.lock(rt).locked {
-            Some(locked) => locked.office.take_work(),
+        let taken = match &mut self.lock(rt).office {
+            Some(office) => office.take_work(),
             None => return Attempt::Done,
         };
         match taken {

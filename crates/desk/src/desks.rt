@@ -27,20 +27,20 @@ use std::thread::Threads;
 use std::time::{Clock, Duration, Instant};
 use store::Store;
 
-/// How a desk builds its views, and how long it lets wait for one.
+/// How a desk builds its views, and how long callers wait for one.
 #[derive(Clone, Copy, Debug, PartialEq, Eq)]
 pub struct Setup {
-    /// The width of the buckets of searches, 1 to 2147483647; where none is given it is each network's default.
+    /// The width of the buckets of searches, 1 to 2147483647. If none is given, it is each network's default.
     pub delta: Option<u32>,
     /// How many row workers there are, 1 to 64.
     pub workers: u32,
-    /// How long a version is waited for that is not shown.
+    /// How long a caller waits for a version that is not shown.
     pub patience: Duration,
-    /// How many pairs of pipes the desk is served at, as `state` tells it.
+    /// How many pairs of pipes the desk serves, as `state` reports it.
     pub pairs: u64,
 }
 
-/// Starts the flusher and the builder of a desk. Where the system gives no thread (63), none runs.
+/// Starts the flusher and the builder of a desk. If the system gives no thread (63), neither runs.
 fn start_both<
     N: Naming + Send + Sync + 'static,
     D: Disk + Drop + Send + 'static,
@@ -57,10 +57,10 @@ fn start_both<
     )
 }
 
-/// A store that is served: groups are made durable by one thread, and shown by another. It has the calls of its handle, which is lent to other threads.
+/// A store that is served: one thread makes groups durable, and another shows them. It has the calls of its handle, which it lends to other threads.
 ///
-/// A desk that is let go without `close` halts, waits for its threads, and ends the readers' copy: its readers can't look any more, and of handles that
-/// others have each call is refused (61).
+/// A desk that is dropped without `close` halts, waits for its threads, and closes the readers' copy: its readers can no longer look, and each call of a
+/// remaining handle is refused (61).
 pub struct Desk<N: Naming, D: Disk + Drop, G: Gate + Drop, R: Threads + Wait + Copy> {
     handle: Handle<N, D, G, R>,
     threads: Started,
@@ -104,10 +104,10 @@ impl<
     G: Gate + Drop + Send + Sync + 'static,
     R: Threads + Wait + Copy + Send + Sync + 'static,
 > Desk<N, D, G, R> {
-    /// Serves a store that is not broken, with the history of a new desk. The first view is built by this call, its landmarks' rows by the row
-    /// workers, without a call of the gate.
+    /// Serves a store that is not broken, with the history of a new desk. This call builds the first view. The row workers make the rows of its landmarks,
+    /// without a call of the gate.
     ///
-    /// Refused is want of memory (11) and of threads (63); the store is dropped then, and no thread runs.
+    /// It fails with 11 for lack of memory, and with 63 if the system gives no thread. Then the store is dropped, and no thread runs.
     pub fn start(
         rt: R,
         alloc: Global,
@@ -163,33 +163,33 @@ impl<
 }
 
 impl<N: Naming, D: Disk + Drop, G: Gate + Drop, R: Threads + Wait + Copy> Desk<N, D, G, R> {
-    /// Halts the desk, and waits until its flusher has ended: what was accepted is durable then, or won't be, and nothing more is written to
-    /// the disk. The last view may still be built.
+    /// Halts the desk, and waits until its flusher has ended. Then what was accepted is durable, or never will be, and nothing more is written to the disk.
+    /// The last view may still be built.
     pub fn end_writing(&self) {
         self.shared.end_writing(&self.rt)
     }
 
-    /// Halts the desk, and waits until both of its threads have ended: what was accepted is durable then and shown, or won't be. Who waits by a handle is
-    /// served, or refused.
+    /// Halts the desk, and waits until both of its threads have ended. Then what was accepted is durable and shown, or never will be. Whoever waits by a
+    /// handle is served or refused.
     pub fn end_showing(&self) {
         self.shared.end_showing(&self.rt)
     }
 
-    /// What threads share to call the desk at once.
+    /// What threads share to call the desk at the same time.
     pub fn handle(&self) -> &Handle<N, D, G, R> {
         &self.handle
     }
 
-    /// Halts the desk, waits for its threads, and hands out what it leaves: the history, what was shown last, and the disk. Its readers can't
-    /// look any more. Others may still have handles: from then on each call of theirs is refused (61), and nobody waits.
+    /// Halts the desk, waits for its threads, and returns what it leaves: the history, what was shown last, and the disk. Its readers can no longer look.
+    /// Others may still have handles: from then on each call of theirs is refused (61), and nobody waits.
     ///
-    /// Refused (61) is an office that was taken out before, which never comes.
+    /// It would fail with 61 if the office had been taken out before, which never happens.
     pub fn close(self) -> Result<Closed<D>, Refusal>
         ensures origin { IfOk result (λ closed. closed.whole.origin ≡ N.origin) }
         ensures causes { IfErr result (λ refusal. refusal ≡ closed) }
         // The disk keeps the disk model.
         ensures honest { N.came_tidy → IfOk result (λ closed. D.honest closed.disk) }
-        // What a stop may leave of the disk stands for the network after a beginning of the history, with all that was acknowledged or shown.
+        // What a stop may leave on the disk stands for the network after a front of the history that has everything acknowledged or shown.
         ensures left { N.came_tidy → IfOk result (λ closed. AreAmong (D.left closed.disk) (KeepsDesk closed.whole closed.shown closed.journal_pages)) }
     {
         let Desk {

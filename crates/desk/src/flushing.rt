@@ -1,8 +1,8 @@
 // The flusher: the thread that makes groups durable and writes checkpoints.
 use crate::attempts::{Attempt, Misses, attempt_of};
 use crate::gates::Gate;
-use crate::locked::FlusherTurn;
 use crate::shared::Shared;
+use crate::turns::FlusherTurn;
 use disk::Disk;
 use machine::PAGES_OF_STEP;
 use office::{Naming, Office};
@@ -11,13 +11,13 @@ use std::time::Clock;
 use store::Part;
 
 impl<N: Naming, D: Disk + Drop, G: Gate + Drop> Shared<Office<N, D>, G> {
-    /// A flush, unless the gate holds it up.
+    /// A flush, unless the gate delays it.
     fn flush<R: Wait>(&self, rt: &R, durable: u64) -> Attempt {
         if !self.gate.before_flush(durable) {
             return Attempt::NoMemory;
         }
-        let flushed = match &mut self.lock(rt).locked {
-            Some(locked) => locked.office.flush(),
+        let flushed = match &mut self.lock(rt).office {
+            Some(office) => office.flush(),
             None => return Attempt::Done,
         };
         self.flushed.notify_all();
@@ -27,7 +27,7 @@ impl<N: Naming, D: Disk + Drop, G: Gate + Drop> Shared<Office<N, D>, G> {
         }
     }
 
-    /// A step of a checkpoint, unless the gate holds it up: of the one that is going, which holds this version, or else of one that begins.
+    /// A step of a checkpoint, unless the gate delays it: of the one that is going, which holds this version, or otherwise of a new one.
     fn step<R: Wait>(&self, rt: &R, going: &mut Option<u64>, durable: u64) -> Attempt {
         let version = match *going {
             Some(version) => version,
@@ -36,8 +36,8 @@ impl<N: Naming, D: Disk + Drop, G: Gate + Drop> Shared<Office<N, D>, G> {
         if !self.gate.before_step(version) {
             return Attempt::NoMemory;
         }
-        let part = match &mut self.lock(rt).locked {
-            Some(locked) => locked.office.checkpoint_step(PAGES_OF_STEP),
+        let part = match &mut self.lock(rt).office {
+            Some(office) => office.checkpoint_step(PAGES_OF_STEP),
             None => return Attempt::Done,
         };
         match part {

@@ -29,25 +29,25 @@ use std::sync::{Arc, Mutex, Wait};
 use std::thread::Threads;
 use std::time::{Duration, Instant};
 
-/// A desk without its threads, for callers in other threads. The desk lends it, and so has each of its calls.
+/// A desk without its threads, for callers in other threads. The desk lends it, and so offers each of its calls.
 ///
-/// A handle may outlive its desk: once that is closed each call of it is refused (61), and none waits.
+/// A handle may outlive its desk. Once the desk is closed, each call of the handle is refused (61), and none waits.
 #[derive(Drop)]
 pub struct Handle<N: Naming, D: Disk + Drop, G: Gate + Drop, R: Wait + Copy> {
     pub(crate) rt: R,
     pub(crate) alloc: Global,
     pub(crate) shared: Arc<Shared<Office<N, D>, G>>,
     pub(crate) rows: Arc<Mutex<Shelf<N>>>,
-    /// How long a version is waited for.
+    /// How long a caller waits for a version.
     pub(crate) patience: Duration,
-    /// When the desk was started, where the clock could be read.
+    /// When the desk was started, if the clock could be read.
     pub(crate) since: Option<Instant>,
-    /// How many pairs of pipes it is served at.
+    /// How many pairs of pipes it serves.
     pub(crate) pairs: u64,
 }
 
 impl<N: Naming, D: Disk + Drop, G: Gate + Drop, R: Wait + Copy> Handle<N, D, G, R> {
-    /// Another handle of the desk, for a thread of its own. The one error is want of memory.
+    /// Another handle of the desk, for a thread of its own. The only error is lack of memory.
     pub fn again(&self) -> Result<Handle<N, D, G, R>, OutOfMemory> {
         let (Ok(shared), Ok(rows)) = (Arc::try_clone(&self.shared), Arc::try_clone(&self.rows))
         else {
@@ -64,10 +64,10 @@ impl<N: Naming, D: Disk + Drop, G: Gate + Drop, R: Wait + Copy> Handle<N, D, G, 
         })
     }
 
-    /// Accepts the group as the next number, and gives a ticket for it. It is not acknowledged yet.
+    /// Accepts the group with the next number, and returns a ticket for it. The group is not acknowledged yet.
     ///
-    /// Refused is a desk that is halted (61), then what the keeper refuses. Groups that were accepted before it may be a reason, and need not be durable yet:
-    /// who tells of the refusal settles its basis first.
+    /// It is refused with 61 if the desk is halted, and otherwise as the keeper refuses. The reason may be groups that were accepted before, which need not
+    /// be durable yet: whoever reports the refusal settles its basis first.
     pub fn offer(&self, group: Group) -> Result<Ticket, Refused>
         ensures origin { IfOk result (λ ticket. ticket.origin ≡ N.origin) }
         ensures group { IfOk result (λ ticket. ticket.ticket.group ≡ group) }
@@ -78,7 +78,7 @@ impl<N: Naming, D: Disk + Drop, G: Gate + Drop, R: Wait + Copy> Handle<N, D, G, 
         Ok(ticket)
     }
 
-    /// The same, of which a refusal tells no basis.
+    /// The same, with a refusal that has no basis.
     pub fn submit_group(&self, group: Group) -> Result<Ticket, Refusal>
         ensures origin { IfOk result (λ ticket. ticket.origin ≡ N.origin) }
         ensures group { IfOk result (λ ticket. ticket.ticket.group ≡ group) }
@@ -99,9 +99,9 @@ impl<N: Naming, D: Disk + Drop, G: Gate + Drop, R: Wait + Copy> Handle<N, D, G, 
         self.submit_group(Group::one(command))
     }
 
-    /// Waits until the ticket's group is durable: no stop takes it back then. The receipt is for the ticket's number and group.
+    /// Waits until the ticket's group is durable: then no stop takes it back. The receipt is for the ticket's number and group.
     ///
-    /// Refused is a store that broke before that (45), and a desk whose flusher ended before that (61). The ticket is handed back then.
+    /// It fails with 45 if the store broke before that, and with 61 if the flusher ended before that. Then the ticket is handed back.
     pub fn settle(&self, ticket: Ticket) -> Result<Receipt, (Refusal, Ticket)>
         requires { ticket.origin ≡ N.origin }
         ensures receipt { IfOk result (λ receipt. receipt ≡ ticket) }
@@ -119,10 +119,9 @@ impl<N: Naming, D: Disk + Drop, G: Gate + Drop, R: Wait + Copy> Handle<N, D, G, 
         guard.settle(ticket)
     }
 
-    /// Waits until the groups of a basis are durable: no stop takes them back then. What is given is a beginning of the desk's history that has them, as
-    /// acknowledged.
+    /// Waits until the groups of a basis are durable: then no stop takes them back. Returns a front of the desk's history that has them, as acknowledged.
     ///
-    /// Refused is a store that broke before that (45), and a desk whose flusher ended before that (61).
+    /// It fails with 45 if the store broke before that, and with 61 if the flusher ended before that.
     pub fn settle_basis(&self, basis: &Basis) -> Result<Front, Refusal>
         requires { basis.now.origin ≡ N.origin }
         ensures origin { IfOk result (λ front. front.origin ≡ N.origin) }
@@ -141,9 +140,9 @@ impl<N: Naming, D: Disk + Drop, G: Gate + Drop, R: Wait + Copy> Handle<N, D, G, 
         guard.settle_basis(basis)
     }
 
-    /// Waits until a view is shown that has the ticket's group, and tells the groups after which it is shown.
+    /// Waits until a view is shown that has the ticket's group, and returns what is shown.
     ///
-    /// Refused is a store that broke before the group was durable (45), and a desk whose builder ended before that (61).
+    /// It fails with 45 if the store broke before the group was durable, and with 61 if the builder ended before that.
     pub fn wait_shown(&self, ticket: &Ticket) -> Result<Shown, Refusal>
         requires { ticket.now.origin ≡ N.origin }
         ensures origin { IfOk result (λ shown. shown.origin ≡ N.origin) }
@@ -159,13 +158,13 @@ impl<N: Naming, D: Disk + Drop, G: Gate + Drop, R: Wait + Copy> Handle<N, D, G, 
             |held: &mut Held<Office<N, D>>| held.is_unseen(number),
         );
         self.shared.waiting.fetch_sub(1, Ordering::SeqCst);
-        guard.there()?.shown_since(ticket)
+        guard.shown_since(ticket)
     }
 
-    /// A reader of the views that are shown. It has looked once, and knows the groups after which it saw the view.
+    /// A reader of the shown views. It has looked once, and knows the groups after which the view that it saw is shown.
     ///
-    /// Refused is a place for it that is not found (60): there are 64, and while readers come and go a free one may be missed. Then want of
-    /// memory (11), and a copy that can't be entered (61), which doesn't come while there is the desk.
+    /// It fails with 60 if no free place is found: there are 64, and while readers come and go a free one may be missed. Then it may fail with 11 for lack
+    /// of memory, and with 61 if the copy cannot be entered, which does not happen while the desk exists.
     pub fn reader(&self) -> Result<Reader<N>, Refusal>
         ensures origin { IfOk result (λ reader. reader.known.origin ≡ N.origin) }
         ensures view { IfOk result (λ reader. IsViewAfter N.origin reader.known.groups reader.view) }
@@ -175,9 +174,9 @@ impl<N: Naming, D: Disk + Drop, G: Gate + Drop, R: Wait + Copy> Handle<N, D, G, 
         Reader::new(self.alloc, reader)
     }
 
-    /// A place among the readers, for who looks now and then: it has seen no group, and holds no view. It is one of the 64 that `reader` speaks of.
+    /// A reader place, for whoever looks now and then: it has seen no group, and holds no view. It is one of the 64 that `reader` speaks of.
     ///
-    /// Refused is a place that is not found (60), as `reader`, and a desk that is closed (61).
+    /// It fails with 60 if no free place is found, as `reader` does, and with 61 if the desk is closed.
     pub fn place(&self) -> Result<Place<N>, Refusal>
         ensures { IfErr result IsNoReader }
     {
@@ -185,25 +184,24 @@ impl<N: Naming, D: Disk + Drop, G: Gate + Drop, R: Wait + Copy> Handle<N, D, G, 
         Ok(Place::new(reader))
     }
 
-    /// A client has come: `state` counts it until it goes.
+    /// A client has come: `state` counts it until it leaves.
     pub fn client_came(&self) {
         self.shared.clients.fetch_add(1, Ordering::SeqCst);
     }
 
-    /// A client that had come has gone.
+    /// A client that had come has left.
     pub fn client_went(&self) {
         self.shared.clients.fetch_sub(1, Ordering::SeqCst);
     }
 
-    /// No group is taken any more: the flusher makes durable what is pending, the builder shows the last view, and both end. It takes no
-    /// memory.
+    /// No more groups are accepted: the flusher makes durable what is pending, the builder shows the last view, and both end. It takes no memory.
     pub fn halt(&self) {
         self.shared.halt(&self.rt)
     }
 }
 
 impl<N: Naming, D: Disk + Drop, G: Gate + Drop, R: Wait + Copy> Handle<N, D, G, R> {
-    /// What the row of the source tells, if it is kept for all who ask; else what a search gets.
+    /// What the row of the source says, if it is kept for all callers; otherwise what a search needs.
     fn kept_reply(&self, glance: &Glance<N>, source: u32, target: u64) -> Result<Reply, Missed>
         ensures { IfOk result (λ reply. IsNode glance.now.view.network target → IsDistance glance.now.view.network source target reply) }
     {
@@ -216,7 +214,7 @@ impl<N: Naming, D: Disk + Drop, G: Gate + Drop, R: Wait + Copy> Handle<N, D, G, 
 }
 
 impl<N: Naming, D: Disk + Drop, G: Gate + Drop, R: Threads + Wait + Copy> Handle<N, D, G, R> {
-    /// What a new row of the source tells. While it is made no lock is held; then it is kept for all who ask.
+    /// What a new row of the source says. While it is made no lock is held; then it is kept for all callers.
     fn new_reply(
         &self,
         glance: &Glance<N>,
@@ -238,7 +236,7 @@ impl<N: Naming, D: Disk + Drop, G: Gate + Drop, R: Threads + Wait + Copy> Handle
         Ok(reply)
     }
 
-    /// What a search tells that ends at the target, led by the rows of the view's landmarks. While it is made no lock is held; it keeps no row.
+    /// What a search that ends at the target finds, led by the rows of the view's landmarks. While it runs no lock is held. It keeps no row.
     fn stopped_reply(
         &self,
         glance: &Glance<N>,
@@ -258,7 +256,7 @@ impl<N: Naming, D: Disk + Drop, G: Gate + Drop, R: Threads + Wait + Copy> Handle
         Ok(reply)
     }
 
-    /// What a search tells: a whole row where the source was asked before, else one that ends at the target.
+    /// What a search finds: a whole row if the source was asked before, otherwise one that ends at the target.
     fn searched_reply(
         &self,
         glance: &Glance<N>,
@@ -277,12 +275,12 @@ impl<N: Naming, D: Disk + Drop, G: Gate + Drop, R: Threads + Wait + Copy> Handle
         self.stopped_reply(glance, source, target, workspace)
     }
 
-    /// The reply to `Dist` in a view of this desk: by a row that is kept for all who ask; where none is kept of the source, by a search that ends at the
-    /// target, led by the rows of the landmarks; and where the source was asked before in this view, by a new row. Of all rows that queries of all handles
-    /// made up to 64 are kept, of 4 or 8 bytes a node each, of the latest view that was asked, and the memory of up to four searches, of 14 to 39 bytes a node
-    /// each.
+    /// The reply to `Dist` in a view of this desk: from a row that is kept for all callers; if the source has none, by a search that ends at the target,
+    /// led by the rows of the landmarks; and if the source was asked before in this view, by a new row. The desk keeps up to 64 of the rows that queries of
+    /// all handles made, of 4 or 8 bytes a node each, all of the latest view that was asked; and the memory of up to four searches, of 14 to 39 bytes a
+    /// node each.
     ///
-    /// The one error is want of memory for a search; a refused query takes none.
+    /// The only error is lack of memory for a search; a refused query takes none.
     pub fn dist(&self, glance: &Glance<N>, source: u64, target: u64) -> Result<Reply, OutOfMemory>
         ensures right { IfOk result (IsRight glance.now.view.network (Dist source target)) }
         ensures refused { IsSome (refusal_of glance.now.view.network (Dist source target)) → IsOk result }

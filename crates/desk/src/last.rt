@@ -3,10 +3,10 @@ use roadnet::OutOfMemory;
 use std::sync::atomic::{AtomicU64, Ordering};
 use thiserror::Error;
 
-/// What stands for the last version of a desk until no more becomes durable. No version is that high.
+/// The last version of a desk, as long as it is not known. No version is that high.
 pub(crate) const UNKNOWN: u64 = u64::MAX;
 
-/// Whether a view of this version is passed over: a later one is known to be the last.
+/// Whether a view of this version is skipped, because a later one is known to be the last.
 pub(crate) fn is_passed(last: &AtomicU64, version: u64) -> bool {
     let last = last.load(Ordering::SeqCst);
     last != UNKNOWN && version < last

@@ -1,5 +1,4 @@
-//! The desk of a store: an office under a lock, a thread that makes groups durable, a thread that builds views, and readers that wait
-//! for neither.
+//! The desk of a store: an office under a lock, a thread that makes groups durable, a thread that builds views, and readers that wait for neither.
 #![tactic(auto)]
 
 mod attempts;
@@ -13,7 +12,6 @@ mod handles;
 mod held;
 mod last;
 mod leaves;
-mod locked;
 mod nearby;
 mod pins;
 mod places;
@@ -26,6 +24,7 @@ mod shared;
 mod shelves;
 mod states;
 mod threads;
+mod turns;
 
 pub use bounds::{ServeRuntime, ServedDisk, ServedGate, ServedNaming};
 pub use desks::{Desk, Setup};

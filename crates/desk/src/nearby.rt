@@ -1,4 +1,4 @@
-//! What lies near a node of a view, and the lengths of many pairs, all of one version.
+//! What is near a node of a view, and the lengths of many pairs, all of one version.
 ghost use Rattle.std.specs.Prelude.{◌≡◌, true, IfOk, IfErr, IfSome, OnOk};
 ghost use Rattle.roadnet.specs.Reversal.{reversed};
 ghost use Rattle.roadnet.specs.Step.{is_node};
@@ -21,7 +21,7 @@ use std::alloc::Global;
 use std::sync::{Arc, Wait};
 use std::thread::Threads;
 
-/// The arcs of a network turned round, to be shared. They are none where no memory is had for them.
+/// The reversed arcs of a network, to be shared; nothing if there is no memory for them.
 fn turned_by(alloc: Global, asker: &Asker) -> Option<Arc<Snapshot>>
     ensures { IfSome result (λ back. IsSnapshotOf (reversed asker.now.network) back.value) }
 {
@@ -29,7 +29,7 @@ fn turned_by(alloc: Global, asker: &Asker) -> Option<Arc<Snapshot>>
     Arc::new(alloc, back).ok()
 }
 
-/// Whoever asks a view, with its arcs turned round, where they are given.
+/// An asker of a view, with its reversed arcs, if they are given.
 fn asker_with<'a, N: Naming>(glance: &'a Glance<N>, turned: &'a Option<Arc<Snapshot>>) -> Asker<'a>
     requires { IfSome turned.now (λ back. IsSnapshotOf (reversed glance.now.view.network) back.value) }
     ensures { result ≡ glance.now.view }
@@ -41,7 +41,7 @@ fn asker_with<'a, N: Naming>(glance: &'a Glance<N>, turned: &'a Option<Arc<Snaps
 }
 
 impl<N: Naming, D: Disk + Drop, G: Gate + Drop, R: Wait + Copy> Handle<N, D, G, R> {
-    /// A share of the row of the node that this is asked of, if it is kept for all who ask.
+    /// A share of the row of the node that the question is about, if it is kept for all callers.
     fn shared(&self, glance: &Glance<N>, near: Near) -> Option<Distances>
         ensures { IfSome result (RowOf glance.now.view.network (node_of near)) }
     {
@@ -52,7 +52,7 @@ impl<N: Naming, D: Disk + Drop, G: Gate + Drop, R: Wait + Copy> Handle<N, D, G, 
         rows.row(glance, node)
     }
 
-    /// A share of the arcs of a view turned round, if they are kept for all who ask.
+    /// A share of the reversed arcs of a view, if they are kept for all callers.
     fn kept_turned(&self, glance: &Glance<N>) -> Option<Arc<Snapshot>>
         ensures { IfSome result (λ back. IsSnapshotOf (reversed glance.now.view.network) back.value) }
     {
@@ -60,8 +60,8 @@ impl<N: Naming, D: Disk + Drop, G: Gate + Drop, R: Wait + Copy> Handle<N, D, G, 
         rows.turned(glance)
     }
 
-    /// The arcs of a view turned round, where this is asked over them: those that are kept for all who ask, else new ones, which are kept then. While they
-    /// are made no lock is held. They are none where no memory is had for them.
+    /// The reversed arcs of a view, if the question needs them: those that are kept for all callers, otherwise new ones, which are then kept. While they
+    /// are made no lock is held. Nothing if there is no memory for them.
     fn turned(&self, glance: &Glance<N>, near: Near) -> Option<Arc<Snapshot>>
         ensures { IfSome result (λ back. IsSnapshotOf (reversed glance.now.view.network) back.value) }
     {
@@ -92,10 +92,10 @@ impl<N: Naming, D: Disk + Drop, G: Gate + Drop, R: Wait + Copy> Handle<N, D, G, 
 }
 
 impl<N: Naming, D: Disk + Drop, G: Gate + Drop, R: Threads + Wait + Copy> Handle<N, D, G, R> {
-    /// The nodes near one in a view of this desk, as `rows::Asker::near` tells them: by a row of the source, or over the arcs turned round, where these are kept
-    /// for all who ask. While they are gathered no lock is held.
+    /// The nodes near a node in a view of this desk, as `rows::Asker::near` gives them: from a row of the source, or over the reversed arcs, if these are
+    /// kept for all callers. While they are collected no lock is held.
     ///
-    /// Refused is a number that is no node's (24), and want of memory (11).
+    /// It fails with 24 for a number that is not a node's, and with 11 for lack of memory.
     pub fn near(&self, glance: &Glance<N>, near: Near) -> Result<Vec<NodeDistance>, Refusal>
         ensures near { IfOk result (λ told. IsNear glance.now.view.network near told.items) }
         ensures node { OnOk result (is_node glance.now.view.network (node_of near) ≡ true) }
@@ -111,10 +111,10 @@ impl<N: Naming, D: Disk + Drop, G: Gate + Drop, R: Threads + Wait + Copy> Handle
         told
     }
 
-    /// The replies to `Dist` for pairs of a source and a target, in their order, all in one view of this desk, as `rows::Asker::table` gives them. It takes no
-    /// row that is kept for all who ask, and keeps none.
+    /// The replies to `Dist` for pairs of a source and a target, in their order, all in one view of this desk, as `rows::Asker::table` gives them. It uses
+    /// no row that is kept for all callers, and keeps none.
     ///
-    /// Refused is a number that is no node's (24), and want of memory (11).
+    /// It fails with 24 for a number that is not a node's, and with 11 for lack of memory.
     pub fn table(&self, glance: &Glance<N>, pairs: &[(u64, u64)]) -> Result<Vec<Reply>, Refusal>
         ensures right { IfOk result (λ replies. AreRight glance.now.view.network pairs.now replies.items) }
         ensures nodes { OnOk result (are_pairs glance.now.view.network pairs.now ≡ true) }

@@ -10,7 +10,7 @@ use rows::Reply;
 use std::alloc::Global;
 use std::thread::Threads;
 
-/// A reader that looked at a view and is asked queries of it. As long as it is lent, it looks at no other.
+/// A reader that looked at a view and answers queries of it. While it is lent, it looks at no other view.
 #[derive(Drop)]
 pub struct Pinned<'a, N: Naming> {
     reader: &'a mut Reader<N>,
@@ -38,22 +38,21 @@ impl<'a, N: Naming> Pinned<'a, N> {
         self.reader.sight().width()
     }
 
-    /// The reply to `From`, by the landmark's row. It takes no memory.
+    /// The reply to `From`, from the landmark's row. It takes no memory.
     pub fn from_landmark(&self, landmark: u64, target: u64) -> Reply
         ensures { IsRight self.now.reader.now.view.network (From landmark target) result }
     {
         self.reader.sight().view().from_landmark(landmark, target)
     }
 
-    /// The reply to `Lower`, by the rows of all landmarks. It takes no memory.
+    /// The reply to `Lower`, from the rows of all landmarks. It takes no memory.
     pub fn lower(&self, source: u64, target: u64) -> Reply
         ensures { IsRight self.now.reader.now.view.network (Lower source target) result }
     {
         self.reader.sight().view().lower(source, target)
     }
 
-    /// The reply to `Dist`, by a row that the reader keeps or a new one. The one error is want of memory for a new row; a refused query
-    /// takes none.
+    /// The reply to `Dist`, from a row that the reader keeps or a new one. The only error is lack of memory for a new row. A refused query takes none.
     pub fn dist<R: Threads>(
         &mut self,
         rt: &R,
@@ -69,7 +68,7 @@ impl<'a, N: Naming> Pinned<'a, N> {
         self.reader.dist(rt, alloc, source, target)
     }
 
-    /// The replies to `Dist` for pairs of a source and a target, in their order. The one error is want of memory, for 16 bytes a pair and a
+    /// The replies to `Dist` for pairs of a source and a target, in their order. The only error is lack of memory, for 16 bytes a pair and a
     /// row.
     pub fn batch<R: Threads>(
         &mut self,
@@ -78,7 +77,7 @@ impl<'a, N: Naming> Pinned<'a, N> {
         pairs: &[(u64, u64)],
     ) -> Result<Vec<Reply>, OutOfMemory>
         ensures right { IfOk result (λ replies. AreRight self.old.reader.now.view.network pairs.now replies.items) }
-        // No pair takes no memory.
+        // For no pairs it takes no memory.
         ensures empty { pairs.now ≡ [] → IsOk result }
         ensures view { self.new.reader.now ≡ self.old.reader.now }
         ensures same { self.new.reader.ghost_name ≡ self.old.reader.ghost_name }

@@ -14,8 +14,8 @@ use rows::{Asker, Reply, View};
 use std::marker::{Model, PhantomData};
 use std::sync::Arc;
 
-/// A place among the readers of a desk, for who looks now and then: between two looks it holds no view back, and keeps no row. Contracts see it as
-/// the beginning of the desk's history that it has seen or was told of. It takes no lock and waits for nobody.
+/// A reader place of a desk, for whoever looks now and then: between two looks it holds no view, and keeps no row. Contracts see it as the front of the
+/// desk's history that it has seen or learned of. It takes no lock and waits for nobody.
 #[derive(Drop)]
 pub struct Place<N: Naming> {
     reader: published::Reader,
@@ -45,7 +45,7 @@ impl<N: Naming> Place<N> {
         }
     }
 
-    /// The beginning of the desk's history that it has seen or was told of.
+    /// The front of the desk's history that it has seen or learned of.
     pub fn known(&self) -> &Front
         ensures known { result.now ≡ self.now }
         ensures origin { result.now.origin ≡ N.origin }
@@ -53,9 +53,9 @@ impl<N: Naming> Place<N> {
         self.reader.known()
     }
 
-    /// Looks at the view that is shown. The groups after which it stands begin with all that was seen and told here, and they are seen then.
+    /// Looks at the shown view. The groups after which it is shown begin with everything that was seen and learned here, and then they are seen.
     ///
-    /// Refused is a share of the view for which there is no room (11), and a desk that is closed (61). Then nothing has changed.
+    /// It fails with 11 if there is no memory for a share of the view, and with 61 if the desk is closed. Then nothing has changed.
     pub fn look(&mut self) -> Result<Glance<N>, Refusal>
         ensures seen { IfOk result (λ glance. glance.known ≡ self.new) }
         ensures begins { IsPrefix self.old.groups self.new.groups }
@@ -70,7 +70,7 @@ impl<N: Naming> Place<N> {
         })
     }
 
-    /// Takes in what was shown: it knows the longer of both lists of groups then, which the other begins.
+    /// Takes in what was shown: then it knows the longer of both lists of groups, which begins with the other.
     pub fn learn(&mut self, shown: &Shown)
         requires { shown.now.origin ≡ N.origin }
         ensures one { (self.new ≡ self.old) ⊎ (self.new ≡ shown.now) }
@@ -81,7 +81,7 @@ impl<N: Naming> Place<N> {
     }
 }
 
-/// What is seen at one moment: the view that is shown, with the groups after which it stands. It holds the view as long as it is there.
+/// What is seen at one moment: the shown view, with the groups after which it is shown. It holds the view as long as it exists.
 #[derive(Drop)]
 pub struct Glance<N: Naming> {
     view: Arc<View>,
@@ -101,7 +101,7 @@ impl<N: Naming> Model for Glance<N> {
 }
 
 impl<N: Naming> Glance<N> {
-    /// The groups after which the view stands.
+    /// The groups after which the view is shown.
     pub(crate) fn groups(&self) -> &Front
         ensures known { result.now ≡ self.now.known }
         ensures origin { result.now.origin ≡ N.origin }
@@ -132,21 +132,21 @@ impl<N: Naming> Glance<N> {
         self.view.network()
     }
 
-    /// Whoever asks the view. It takes no memory.
+    /// An asker of the view. It takes no memory.
     pub(crate) fn asker(&self) -> Asker<'_>
         ensures { result ≡ self.now.view }
     {
         self.view.asker()
     }
 
-    /// The reply to `From`, by the landmark's row. It takes no memory.
+    /// The reply to `From`, from the landmark's row. It takes no memory.
     pub fn from_landmark(&self, landmark: u64, target: u64) -> Reply
         ensures { IsRight self.now.view.network (From landmark target) result }
     {
         self.view.from_landmark(landmark, target)
     }
 
-    /// The reply to `Lower`, by the rows of all landmarks. It takes no memory.
+    /// The reply to `Lower`, from the rows of all landmarks. It takes no memory.
     pub fn lower(&self, source: u64, target: u64) -> Reply
         ensures { IsRight self.now.view.network (Lower source target) result }
     {

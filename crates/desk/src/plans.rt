@@ -28,7 +28,7 @@ use store::Store;
 #[derive(Clone, Copy)]
 pub(crate) struct Plan {
     pub(crate) alloc: Global,
-    /// The width of the buckets of searches; where none is given it is each network's default.
+    /// The width of the buckets of searches. If none is given, it is each network's default.
     pub(crate) delta: Option<u32>,
     /// How many row workers there are.
     pub(crate) workers: u32,
@@ -37,8 +37,8 @@ pub(crate) struct Plan {
     ghost few: { workers ≤ 64 },
 }
 
-/// All arcs of a network the other way round: those that an older view has, where no arc was laid since, else they are grouped anew. It is nothing where no
-/// older view is given, and where no memory is had for it.
+/// All arcs of a network the other way round: those of an older view, if no arc was laid since; otherwise they are grouped anew. Nothing if no older view
+/// is given, or if there is no memory.
 fn back_after(alloc: Global, old: Option<&View>, network: &Network) -> Option<Arc<Snapshot>>
     requires { ForSome old (λ old. KeepsEnds old.now.network network.now) }
     ensures { ForSome result (λ back. LeadsBack network.now back.value) }
@@ -55,7 +55,7 @@ fn back_after(alloc: Global, old: Option<&View>, network: &Network) -> Option<Ar
     }
 }
 
-/// The way back along the legs of a network's snapshot, lent.
+/// The legs of a network's snapshot the other way round, lent.
 fn lent<'a>(
     back: &'a Option<Arc<Snapshot>>,
     network: &Network,
@@ -72,7 +72,7 @@ fn lent<'a>(
     }
 }
 
-/// The view of these parts, with the arcs the other way round, where they are given.
+/// The view of these parts, with the reversed arcs, if they are given.
 fn assembled(
     version: u64,
     network: Network,
@@ -93,8 +93,8 @@ fn assembled(
 }
 
 impl Plan {
-    /// A view of this network at this version: the rows of its landmarks are made by the row workers, out of those of an older view where one is
-    /// given. It is given up where the version is passed over meanwhile.
+    /// A view of this network at this version. The row workers make the rows of its landmarks, from those of an older view if one is given. It is given up
+    /// if the version is to be skipped meanwhile.
     fn view_of<G: Gate + Sync, R: Threads + Sync>(
         &self,
         rt: &R,
@@ -137,7 +137,7 @@ impl Plan {
         }
     }
 
-    /// The view of a work, out of the view that was shown as it was taken. Its network is made here, out of that view's.
+    /// The view of a work, made from the view that was shown when the work was taken. Its network is made here, from that view's network.
     pub(crate) fn build<G: Gate + Sync, R: Threads + Sync>(
         &self,
         rt: &R,
@@ -153,7 +153,7 @@ impl Plan {
         self.view_of(rt, gate, last, work.version(), network, Some(work.shown()))
     }
 
-    /// The view of what a store has, made without a call of a gate. The one error is want of memory.
+    /// The view of a store's network, made without a call of a gate. The only error is lack of memory.
     pub(crate) fn first<D: Disk, R: Threads + Sync>(
         &self,
         rt: &R,

@@ -16,8 +16,8 @@ use std::alloc::Global;
 use std::marker::{Model, PhantomData};
 use std::thread::Threads;
 
-/// A reader of the views that a desk shows. It takes no lock and waits for nobody. Contracts see it as the groups that it has seen or was
-/// told of, with the view that it looked at last. It keeps up to 16 rows of that view, of 4 or 8 bytes a node.
+/// A reader of the views that a desk shows. It takes no lock and waits for nobody. Contracts see it as the groups that it has seen or learned of, with the
+/// view that it looked at last. It keeps up to 16 rows of that view, of 4 or 8 bytes a node.
 #[derive(Drop)]
 pub struct Reader<N: Naming> {
     reader: published::Reader,
@@ -55,7 +55,7 @@ impl<N: Naming> Reader<N> {
         })
     }
 
-    /// The beginning of the desk's history that it has seen or was told of.
+    /// The front of the desk's history that it has seen or learned of.
     pub fn known(&self) -> &Front
         ensures groups { result.now ≡ self.now.known }
         ensures origin { result.now.origin ≡ N.origin }
@@ -63,10 +63,10 @@ impl<N: Naming> Reader<N> {
         self.reader.known()
     }
 
-    /// Looks at the view that is shown. The groups after which it stands begin with all that the reader has seen and was told of, and the
-    /// reader has then seen them.
+    /// Looks at the shown view. The groups after which it is shown begin with everything that the reader has seen and learned of. Then the reader has seen
+    /// them.
     ///
-    /// Refused is a share of the view for which there is no room (11), and a desk that is closed (61). Then nothing has changed.
+    /// It fails with 11 if there is no memory for a share of the view, and with 61 if the desk is closed. Then nothing has changed.
     pub fn look(&mut self) -> Result<(), Refusal>
         ensures view { IfOk result (λ _. IsViewAfter N.origin self.new.known.groups self.new.view) }
         ensures begins { IsPrefix self.old.known.groups self.new.known.groups }
@@ -78,7 +78,7 @@ impl<N: Naming> Reader<N> {
         Ok(())
     }
 
-    /// The view that it looked at last, for queries. It is of the desk's network after groups with which those begin that the reader knows.
+    /// The view that it looked at last, for queries. It is of the desk's network after groups that are the beginning of those that the reader knows.
     pub fn pinned(&mut self) -> Pinned<'_, N>
         ensures reader { result.reader.now ≡ self.old }
         ensures origin { result.reader.now.known.origin ≡ N.origin }
@@ -89,7 +89,7 @@ impl<N: Naming> Reader<N> {
         Pinned::new(self)
     }
 
-    /// Looks at the view that is shown, as `look` does, and lends the reader for queries of it. After a refusal nothing has changed.
+    /// Looks at the shown view, as `look` does, and lends the reader for queries of it. After a refusal nothing has changed.
     pub fn pin(&mut self) -> Result<Pinned<'_, N>, Refusal>
         ensures view { IfOk result (λ pinned. IsViewAfter N.origin pinned.reader.now.known.groups pinned.reader.now.view) }
         ensures begins { IfOk result (λ pinned. IsPrefix self.old.known.groups pinned.reader.now.known.groups) }
@@ -101,7 +101,7 @@ impl<N: Naming> Reader<N> {
         Ok(self.pinned())
     }
 
-    /// Takes in what was shown: the reader knows the longer of both lists of groups, which the other begins.
+    /// Takes in what was shown: then the reader knows the longer of both lists of groups, which begins with the other.
     pub fn learn(&mut self, shown: &Shown)
         requires { shown.now.origin ≡ N.origin }
         ensures one { (self.new.known ≡ self.old.known) ⊎ (self.new.known ≡ shown.now) }

@@ -1,4 +1,4 @@
-// A group that was refused, and what it was refused for.
+// A group that was refused, and why.
 ghost use Rattle.std.specs.Prelude.{◌≡◌, None};
 
 use office::Basis;
@@ -8,12 +8,12 @@ use roadnet::Refusal;
 #[derive(Drop)]
 pub struct Refused {
     pub refusal: Refusal,
-    /// The groups that were accepted before it, by which it was judged; none where the desk takes no group any more (61).
+    /// The groups that were accepted before it, by which it was judged; none if the desk accepts no more groups (61).
     pub basis: Option<Basis>,
 }
 
 impl Refused {
-    /// The desk takes no group any more.
+    /// The desk accepts no more groups.
     pub(crate) fn closed() -> Refused
         ensures refusal { result.refusal ≡ Refusal.Closed }
         ensures basis { result.basis ≡ None }

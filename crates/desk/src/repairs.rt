@@ -1,4 +1,4 @@
-// What the rows of a view are made out of: those of an older view.
+// What the rows of a view are made from: those of an older view.
 ghost use Rattle.std.specs.Prelude.{IfSome};
 ghost use Rattle.std.specs.Option.{ForSome};
 ghost use Rattle.desk.specs.Repairs.{IsBefore, LeadBackTo};
@@ -14,15 +14,15 @@ pub(crate) struct Before<'a> {
     pub(crate) view: &'a View,
     /// The groups of the older view.
     pub(crate) snapshot: &'a Snapshot,
-    /// The nodes of which some leg is not the same in the other snapshot.
+    /// The nodes that do not have the same legs in the other snapshot.
     pub(crate) changed: Vec<u32>,
-    /// For each leg of the other snapshot one from its head to its tail.
+    /// For each leg of the other snapshot, one from its head to its tail.
     pub(crate) back: &'a Snapshot,
 }
 
 impl Before<'_> {
-    /// The older view, beside what this snapshot has changed of it, and the way back along the snapshot's legs. It is nothing where one of the two is not
-    /// given, where the older network has other nodes, and where no memory is had for the list of those that changed: then all rows are made anew.
+    /// The older view, with what this snapshot has changed of it, and the reversed legs of the snapshot. Nothing if the view or the reversed legs are not
+    /// given, if the older network has other nodes, or if there is no memory for the list of changed nodes: then all rows are made anew.
     pub(crate) fn of<'a>(
         alloc: Global,
         old: Option<&'a View>,

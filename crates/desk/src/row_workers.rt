@@ -23,7 +23,7 @@ use std::collections::VecDeque;
 use std::sync::atomic::AtomicU64;
 use std::thread::{self, Threads};
 
-/// A version whose rows are wanted, and by how many workers.
+/// A version whose rows are wanted, and the number of workers that make them.
 #[derive(Clone, Copy)]
 pub(crate) struct RowJob<'a, G> {
     pub(crate) alloc: Global,
@@ -32,14 +32,14 @@ pub(crate) struct RowJob<'a, G> {
     pub(crate) version: u64,
     pub(crate) network: &'a Network,
     pub(crate) snapshot: &'a Snapshot,
-    /// An older view, out of whose rows those of its landmarks are made.
+    /// An older view, from whose rows those of its landmarks are made.
     pub(crate) before: Option<&'a Before<'a>>,
     pub(crate) workers: u32,
 }
 
 impl<G> RowJob<'_, G> {
-    /// The least distances from a landmark: out of its row in the older view, where one is given and has it, else by a search of their own. They use the
-    /// workspace as `row_in` does.
+    /// The least distances from a landmark: from its row in the older view, if that is given and has it, otherwise by a search. They use the workspace as
+    /// `row_in` does.
     fn distances_of<T: Team>(
         &self,
         landmark: u32,
@@ -69,8 +69,7 @@ impl<G> RowJob<'_, G> {
         )
     }
 
-    /// The row of the landmark for which the gate gave leave. It takes up what an earlier one left in the workspace, and leaves its own memory
-    /// there.
+    /// The row of the landmark for which the gate gave permission. It uses what an earlier row left in the workspace, and leaves its own memory there.
     fn row_of<T: Team>(
         &self,
         leave: Leave,
@@ -96,8 +95,8 @@ impl<G> RowJob<'_, G> {
 }
 
 impl<G: Gate> RowJob<'_, G> {
-    /// The rows of one worker's landmarks, in their order: of so many workers, the one of this number, from 0 on, has the landmark at
-    /// that place and each `workers`-th behind it. Before each row it is asked whether the version is passed over by now.
+    /// The rows of one worker's landmarks, in their order. Of so many workers, the one with this number, from 0 on, has the landmark at that place and each
+    /// `workers`-th after it. Before each row it asks whether the version is to be skipped by now.
     fn rows_of<R: Threads>(&self, rt: &R, worker: u32) -> Result<VecDeque<Row>, Unbuilt>
         requires snapshot { IsSnapshotOf self.now.network.now self.now.snapshot.now }
         requires before { ForSome self.now.before (λ before. IsBefore self.now.snapshot.now before.now) }
@@ -128,7 +127,7 @@ impl<G: Gate> RowJob<'_, G> {
     }
 }
 
-/// The rows of all landmarks, in their order, each worker's in a thread of its own where the system gives one.
+/// The rows of all landmarks, in their order. Each worker makes its rows in a thread of its own, if the system gives one.
 pub(crate) fn landmark_rows<G: Gate + Sync, R: Threads + Sync>(
     rt: &R,
     job: &RowJob<'_, G>,
@@ -158,7 +157,7 @@ pub(crate) fn landmark_rows<G: Gate + Sync, R: Threads + Sync>(
     }
 }
 
-/// All values, in their order, where each was made.
+/// All values, in their order, if all were made.
 fn all_made<T: Drop>(alloc: Global, made: Vec<Result<T, Unbuilt>>) -> Result<VecDeque<T>, Unbuilt>
     ensures { IfOk result (λ values. made.items ≡ map Ok values.items) }
 {
@@ -171,7 +170,7 @@ fn all_made<T: Drop>(alloc: Global, made: Vec<Result<T, Unbuilt>>) -> Result<Vec
     Ok(values)
 }
 
-/// The row of the first of the landmarks that are left, out of the rows that the workers have left. The next worker is the first then.
+/// The row of the first of the remaining landmarks, from the rows that the workers have left. Then the next worker is the first.
 fn next_row<G>(job: &RowJob<'_, G>, left: &[u32], parts: &mut VecDeque<VecDeque<Row>>) -> Row
     requires some { 0 < length left.now }
     requires dealt { AreDealt job.now.version job.now.network.now job.now.workers left.now (map (λ rows. rows.items) parts.old.items) }
@@ -186,7 +185,7 @@ fn next_row<G>(job: &RowJob<'_, G>, left: &[u32], parts: &mut VecDeque<VecDeque<
     row
 }
 
-/// The rows of all landmarks, in their order, out of those of each worker.
+/// The rows of all landmarks, in their order, from those of each worker.
 fn gather<G>(job: &RowJob<'_, G>, mut parts: VecDeque<VecDeque<Row>>) -> Result<Vec<Row>, Unbuilt>
     requires dealt { AreDealt job.now.version job.now.network.now job.now.workers job.now.network.now.landmarks (map (λ rows. rows.items) parts.items) }
     requires workers { 1 ≤ job.now.workers }

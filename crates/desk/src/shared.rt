@@ -3,26 +3,26 @@ use crate::attempts::{Attempt, Misses};
 use crate::gates::Gate;
 use crate::held::Held;
 use crate::last::UNKNOWN;
-use crate::locked::{BuilderTurn, FlusherTurn};
+use crate::turns::{BuilderTurn, FlusherTurn};
 use disk::Disk;
 use office::{Naming, Office};
 use std::sync::atomic::{AtomicU64, Ordering};
 use std::sync::{Condvar, Mutex, MutexGuard, Wait};
 use std::time::{Clock, Duration};
 
-/// The lock, and what is waited for.
+/// The lock, and the condition variables.
 #[derive(Drop)]
 pub(crate) struct Shared<O, G> {
     pub(crate) held: Mutex<Held<O>>,
-    /// A group was submitted, or the desk was halted: the flusher waits for it.
+    /// A group was submitted, or the desk was halted. The flusher waits for it.
     pub(crate) submitted: Condvar,
-    /// Groups became durable, or the flusher ended: the builder and those that settle wait for it.
+    /// Groups became durable, or the flusher ended. The builder and the callers that settle wait for it.
     pub(crate) flushed: Condvar,
-    /// A view was shown, or a thread ended: those that wait for a view do so by it.
+    /// A view was shown, or a thread ended. Those that wait for a view wait for it.
     pub(crate) published: Condvar,
-    /// The desk was halted: a thread that rests waits for it.
+    /// The desk was halted. A thread that rests waits for it.
     pub(crate) halting: Condvar,
-    /// The last version, once no more becomes durable. Row workers ask it without the lock.
+    /// The last version, once nothing more becomes durable. Row workers read it without the lock.
     pub(crate) last: AtomicU64,
     /// How many clients there are, and how many callers wait.
     pub(crate) clients: AtomicU64,
@@ -31,12 +31,12 @@ pub(crate) struct Shared<O, G> {
 }
 
 impl<N: Naming, D: Disk + Drop, G: Gate + Drop> Shared<Office<N, D>, G> {
-    /// Takes the lock.
+    /// Acquires the lock.
     pub(crate) fn lock<R: Wait>(&self, rt: &R) -> MutexGuard<'_, Held<Office<N, D>>> {
         self.held.lock(rt)
     }
 
-    /// Waits until the flusher has something to do, and tells it.
+    /// Waits until the flusher has something to do, and returns that.
     pub(crate) fn next_flusher_turn<R: Wait>(&self, rt: &R, has_flushed: bool) -> FlusherTurn {
         let guard = self.submitted.wait_while(
             rt,
@@ -46,7 +46,7 @@ impl<N: Naming, D: Disk + Drop, G: Gate + Drop> Shared<Office<N, D>, G> {
         guard.flusher_turn(has_flushed)
     }
 
-    /// Waits until the builder has something to do, and tells it.
+    /// Waits until the builder has something to do, and returns that.
     pub(crate) fn next_builder_turn<R: Wait>(&self, rt: &R) -> BuilderTurn {
         let guard = self.flushed.wait_while(
             rt,
@@ -58,17 +58,14 @@ impl<N: Naming, D: Disk + Drop, G: Gate + Drop> Shared<Office<N, D>, G> {
 
     /// The flusher has ended: what is durable is the last version.
     pub(crate) fn end_flusher<R: Wait>(&self, rt: &R) {
-        if let Some(locked) = &mut self.held.lock(rt).locked {
-            self.last.store(locked.office.durable(), Ordering::SeqCst);
-            locked.flusher_ended = true;
-        }
+        self.held.lock(rt).end_flusher(&self.last);
         self.flushed.notify_all();
         self.published.notify_all();
     }
 }
 
 impl<O, G> Shared<O, G> {
-    /// The lock, and nothing has happened.
+    /// The lock of a new desk.
     pub(crate) fn new(office: O, gate: G) -> Shared<O, G> {
         Shared {
             held: Mutex::new(Held::new(office)),
@@ -83,26 +80,26 @@ impl<O, G> Shared<O, G> {
         }
     }
 
-    /// No group is taken any more.
+    /// No more groups are accepted.
     pub(crate) fn halt<R: Wait>(&self, rt: &R) {
-        self.held.lock(rt).halt();
+        self.held.lock(rt).halted = true;
         self.submitted.notify_all();
         self.halting.notify_all();
     }
 
-    /// Rests behind an attempt of a thread, which is counted, where it found no memory. A halt that comes meanwhile ends the rest.
+    /// Rests after an attempt of a thread, which is counted, if it found no memory. A halt in the meantime ends the rest.
     pub(crate) fn rest_behind<R: Wait + Clock>(&self, rt: &R, misses: Misses, attempt: Attempt) {
         let millis = misses.rest(attempt);
         if millis == 0 {
             return;
         }
         let guard = self.held.lock(rt);
-        let halted = guard.is_halted();
+        let halted = guard.halted;
         let _ = self.halting.wait_timeout_while(
             rt,
             guard,
             Duration::from_millis(millis),
-            |held: &mut Held<O>| held.is_halted() == halted,
+            |held: &mut Held<O>| held.halted == halted,
         );
     }
 
@@ -112,7 +109,7 @@ impl<O, G> Shared<O, G> {
         let _ = self.flushed.wait_while(
             rt,
             self.held.lock(rt),
-            |held: &mut Held<O>| held.is_writing(),
+            |held: &mut Held<O>| !held.flusher_ended,
         );
     }
 
@@ -122,17 +119,17 @@ impl<O, G> Shared<O, G> {
         let _ = self.published.wait_while(
             rt,
             self.held.lock(rt),
-            |held: &mut Held<O>| held.is_going(),
+            |held: &mut Held<O>| !(held.flusher_ended && held.builder_ended),
         );
     }
 
     /// The builder has ended.
     pub(crate) fn end_builder<R: Wait>(&self, rt: &R) {
-        self.held.lock(rt).end_builder();
+        self.held.lock(rt).builder_ended = true;
         self.published.notify_all();
     }
 
-    /// Takes the office out of the lock; nothing where that was done before. From then on each call is refused (61), and nobody waits.
+    /// Takes the office out of the lock; nothing if that was done before. From then on each call is refused (61), and nobody waits.
     pub(crate) fn take_office<R: Wait>(&self, rt: &R) -> Option<O>
     where
         O: Drop,

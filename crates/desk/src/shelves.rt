@@ -1,4 +1,4 @@
-// The rows that are kept for all who ask a desk.
+// The rows that are kept for all callers of a desk.
 ghost use Rattle.std.specs.Prelude.{◌≡◌, ◌<◌, [], length, true, None, IfOk, IfSome};
 ghost use Rattle.roadnet.specs.Reversal.{reversed};
 ghost use Rattle.roadnet.specs.Walks.{RowOf};
@@ -22,7 +22,7 @@ const MOST_ROWS: usize = 64;
 /// How many searches' workspaces are kept.
 const MOST_WORKSPACES: usize = 4;
 
-/// How many sources are remembered that were asked and have no row.
+/// How many sources without a row are remembered because they were asked.
 const MOST_ASKED: usize = 64;
 
 /// A row with its source.
@@ -32,16 +32,16 @@ pub(crate) struct KeptRow {
     distances: Distances,
 }
 
-/// What a query gets whose source has no row that is kept.
+/// What a query gets if its source has no kept row.
 #[derive(Drop)]
 pub(crate) struct Missed {
     /// The memory of a search.
     pub(crate) workspace: Workspace,
-    /// Whether the source was asked before in the same view: then its row is worth the search.
+    /// Whether the source was asked before in the same view. Then its row is worth the search.
     pub(crate) again: bool,
 }
 
-/// Where the row of this source stands, if it is among these.
+/// The place of the row of this source, if it is among these.
 fn place_of(rows: &[KeptRow], source: u32) -> Option<usize>
     ensures { IfSome result (λ place. IsRowAt source rows.now place) }
 {
@@ -53,7 +53,7 @@ fn place_of(rows: &[KeptRow], source: u32) -> Option<usize>
     None
 }
 
-/// Where this version and source stand, if they are among these.
+/// The place of this version and source, if they are among these.
 fn position_of(asked: &[(u64, u32)], version: u64, source: u32) -> Option<usize>
     ensures { IfSome result (IsAskedAt version source asked.now) }
 {
@@ -65,21 +65,21 @@ fn position_of(asked: &[(u64, u32)], version: u64, source: u32) -> Option<usize>
     None
 }
 
-/// Rows that queries made, all of one view: up to 64, of 4 or 8 bytes a node, for all who ask. Where it is full, the row that was not used for the
-/// longest time gives way. It has rows of the latest view alone that somebody asked, and the arcs of that view turned round, once somebody asked over them.
-/// Beside them it keeps what up to four searches left, and up to 64 sources that were asked once.
+/// Rows that queries made, all of one view: up to 64, of 4 or 8 bytes a node, for all callers. If the shelf is full, the row that was not used for the
+/// longest time gives way. It only has rows of the latest view that somebody asked, and the reversed arcs of that view, once somebody needed them. It also
+/// keeps what up to four searches left, and up to 64 sources that were asked once.
 ///
-/// Contracts see it as the groups after which the view of the rows stands, and the rows.
+/// Contracts see it as the groups after which the view of the rows is shown, and the rows.
 #[derive(Drop)]
 pub(crate) struct Shelf<N: Naming> {
-    /// The groups after which the view of the rows stands.
+    /// The groups after which the view of the rows is shown.
     groups: Option<Front>,
-    /// The one that was used last stands last.
+    /// The rows. The one that was used last is at the end.
     rows: Vec<KeptRow>,
     /// The open arcs of the view the other way round, grouped.
     turned: Option<Arc<Snapshot>>,
     workspaces: Vec<Workspace>,
-    /// Versions and sources that were asked, and had no row: the last ones.
+    /// The last versions and sources that were asked and had no row.
     asked: Vec<(u64, u32)>,
     of: PhantomData<N>,
 }
@@ -102,7 +102,7 @@ impl<N: Naming> Model for Shelf<N> {
 }
 
 impl<N: Naming> Shelf<N> {
-    /// No row is kept yet. The one error is want of memory, of which it takes some kilobytes.
+    /// An empty shelf. The only error is lack of memory, of which it takes some kilobytes.
     pub(crate) fn new(alloc: Global) -> Result<Shelf<N>, OutOfMemory>
         ensures { IfOk result (λ shelf. (shelf.groups ≡ None) × (shelf.rows ≡ [])) }
     {
@@ -123,7 +123,7 @@ impl<N: Naming> Shelf<N> {
         })
     }
 
-    /// Makes it a shelf of this view, unless it has rows of a later one, and tells whether it is. What it has of an earlier view is dropped.
+    /// Makes it a shelf of this view, unless it has rows of a later one, and returns whether it is one. It drops what it has of an earlier view.
     fn turn_to(&mut self, glance: &Glance<N>) -> bool
         ensures latest { result ≡ is_latest self.old.groups glance.now.known.groups }
         ensures after { result ≡ true → IsAfter self.new.groups glance.now.known.groups }
@@ -141,7 +141,7 @@ impl<N: Naming> Shelf<N> {
         true
     }
 
-    /// A share of the row of this source in this view, if it is kept: it then counts as the one that was used last.
+    /// A share of the row of this source in this view, if it is kept. It then counts as the one that was used last.
     pub(crate) fn row(&mut self, glance: &Glance<N>, source: u32) -> Option<Distances>
         ensures { IfSome result (RowOf glance.now.view.network source) }
     {
@@ -158,7 +158,7 @@ impl<N: Naming> Shelf<N> {
         }
     }
 
-    /// A share of the arcs of this view turned round, if they are kept.
+    /// A share of the reversed arcs of this view, if they are kept.
     pub(crate) fn turned(&mut self, glance: &Glance<N>) -> Option<Arc<Snapshot>>
         ensures { IfSome result (λ back. IsSnapshotOf (reversed glance.now.view.network) back.value) }
     {
@@ -174,7 +174,7 @@ impl<N: Naming> Shelf<N> {
         Some(share)
     }
 
-    /// Keeps the arcs of this view turned round, unless it has rows of a later one.
+    /// Keeps the reversed arcs of this view, unless the shelf has rows of a later one.
     pub(crate) fn keep_turned(&mut self, glance: &Glance<N>, back: Arc<Snapshot>)
         requires { IsSnapshotOf (reversed glance.now.view.network) back.value }
     {
@@ -183,7 +183,7 @@ impl<N: Naming> Shelf<N> {
         }
     }
 
-    /// Has a place for one more row: where it is full, the first one gives way.
+    /// Makes room for one more row: if the shelf is full, the first row gives way.
     fn make_room(&mut self)
         ensures groups { self.new.groups ≡ self.old.groups }
         ensures few { length self.new.rows < most_rows }
@@ -194,7 +194,7 @@ impl<N: Naming> Shelf<N> {
         let _unused = self.rows.remove(0);
     }
 
-    /// Puts a row of the shelf's view last.
+    /// Appends a row of the shelf's view.
     fn put(&mut self, kept: KeptRow)
         requires { IsOfShelf N.origin self.old.groups kept }
         ensures { HasRow kept.source self.new.rows }
@@ -203,7 +203,7 @@ impl<N: Naming> Shelf<N> {
         self.rows.push_reserved(kept);
     }
 
-    /// Keeps a row of this view, unless it has rows of a later one, or a row of the source already.
+    /// Keeps a row of this view, unless the shelf has rows of a later one, or already has a row of the source.
     pub(crate) fn keep(&mut self, glance: &Glance<N>, source: u32, distances: Distances)
         requires { RowOf glance.now.view.network source distances }
         ensures { is_latest self.old.groups glance.now.known.groups ≡ true → HasRow source self.new.rows }
@@ -217,7 +217,8 @@ impl<N: Naming> Shelf<N> {
         }
     }
 
-    /// Whether this source is remembered of this version: it then is no more, and else it is from now on. Where 64 are, the first of them gives way.
+    /// Whether this source is remembered for this version. If so, it is forgotten; otherwise it is remembered from now on. If there are 64 already, the
+    /// first of them gives way.
     fn is_asked_again(&mut self, version: u64, source: u32) -> bool
         ensures groups { self.new.groups ≡ self.old.groups }
         ensures rows { self.new.rows ≡ self.old.rows }
@@ -233,7 +234,7 @@ impl<N: Naming> Shelf<N> {
         false
     }
 
-    /// The memory of a search: what an earlier one left, if one did.
+    /// The memory of a search: what an earlier search left, if there is something.
     pub(crate) fn workspace(&mut self) -> Workspace {
         match self.workspaces.pop() {
             Some(workspace) => workspace,
@@ -241,14 +242,15 @@ impl<N: Naming> Shelf<N> {
         }
     }
 
-    /// What a search for this source in a view of this version gets, of which no row is kept: what an earlier search left, if one did.
+    /// What a search for this source gets in a view of this version, in which the source has no kept row: what an earlier search left, if there is
+    /// something.
     pub(crate) fn missed(&mut self, version: u64, source: u32) -> Missed {
         let again = self.is_asked_again(version, source);
         let workspace = self.workspace();
         Missed { workspace, again }
     }
 
-    /// Keeps what a search left, where four searches left no more.
+    /// Keeps what a search left, unless four are kept already.
     pub(crate) fn leave(&mut self, workspace: Workspace) {
         if self.workspaces.len() < MOST_WORKSPACES {
             let _ = self.workspaces.push(workspace);

@@ -1,11 +1,13 @@
-//! How a desk stands at one moment.
-ghost use Rattle.std.specs.Prelude.{◌≡◌, IfOk, IfErr};
+//! The state of a desk at one moment.
+ghost use Rattle.std.specs.Prelude.{◌≡◌, None, IfOk, IfErr};
 ghost use Rattle.roadnet.specs.declared.refusals.Refusal.TheVariants.{Closed as closed};
-ghost use Rattle.desk.specs.States.{StoodSo, flusher_of, working_of};
+ghost use Rattle.std.specs.Option.{ForSome};
+ghost use Rattle.desk.specs.States.{StandsIn, StoodSo, flusher_of, working_of};
 
 use crate::gates::Gate;
 use crate::handles::Handle;
-use crate::locked::Locked;
+use crate::held::Held;
+use crate::turns::runs;
 use disk::Disk;
 use machine::MOST_OF_LIFE;
 use office::{Naming, Office};
@@ -14,17 +16,17 @@ use std::sync::Wait;
 use std::sync::atomic::Ordering;
 use std::time::Clock;
 
-/// Whether a thread of a desk goes on.
+/// Whether a thread of a desk is running.
 #[derive(Clone, Copy, Debug, PartialEq, Eq)]
 pub enum Working {
     On,
     /// It has ended: the desk was halted, or it found no memory.
     Ended,
-    /// A write failed: nothing is written before the store is opened again. Of the flusher alone.
+    /// A write failed: nothing is written before the store is opened again. Only of the flusher.
     Broken,
 }
 
-/// How a desk stands, all of one moment.
+/// The state of a desk, all of one moment.
 #[derive(Clone, Copy, Debug, PartialEq, Eq)]
 pub struct DeskState {
     /// The version that readers see.
@@ -35,32 +37,32 @@ pub struct DeskState {
     pub accepted: u64,
     /// How many commands the groups have that are accepted and not durable: at most 4,096.
     pub pending: u64,
-    /// How many pages of the journal no checkpoint has made needless.
+    /// How many pages of the journal are still needed because no checkpoint covers them.
     pub unchecked: u64,
     /// How many pages the journal has.
     pub pages: u64,
     /// How many landmarks the network of the shown version has.
     pub landmarks: u64,
-    /// How many places among the readers are taken, of 64. They are given back without the lock, so a moment later there may be fewer.
+    /// How many reader places, of 64, are taken. They are given back without the lock, so a moment later there may be fewer.
     pub readers: u64,
-    /// How many more commands may be accepted before the store is to be opened again: 16,777,216 less those of this life.
+    /// How many more commands may be accepted before the store must be opened again: 16,777,216 less those of this life.
     pub left: u64,
     pub flusher: Working,
     pub builder: Working,
     /// How many arcs the network of the shown version has, and how many it has room for.
     pub arcs: u64,
     pub room: u64,
-    /// How many clients have come, and not gone.
+    /// How many clients have come and not left.
     pub clients: u64,
-    /// How many pairs of pipes the desk is served at.
+    /// How many pairs of pipes the desk serves.
     pub pairs: u64,
-    /// How many callers wait until a group is durable, or a version is shown.
+    /// How many callers wait until a group is durable or a version is shown.
     pub waiting: u64,
-    /// For how many seconds the desk has served; 0 where the clock can't be read.
+    /// For how many seconds the desk has served; 0 if the clock cannot be read.
     pub uptime: u64,
 }
 
-/// What is told of a desk beside its machine and threads.
+/// What is reported of a desk beside its machine and threads.
 #[derive(Clone, Copy)]
 struct Around {
     clients: u64,
@@ -69,47 +71,52 @@ struct Around {
     uptime: u64,
 }
 
-/// Whether a thread goes on or has ended.
+/// Whether a thread is running or has ended.
 fn working_of(ended: bool) -> Working
     ensures { result ≡ working_of ended }
 {
     if ended { Working::Ended } else { Working::On }
 }
 
-impl<N: Naming, D: Disk> Locked<Office<N, D>> {
-    /// How the flusher stands.
-    fn flusher_state(&self) -> Working
-        ensures { result ≡ flusher_of self.now.office.machine self.now.flusher_ended }
-    {
-        if self.office.broken() {
-            return Working::Broken;
-        }
-        working_of(self.flusher_ended)
+/// The state of the flusher.
+fn flusher_of<N: Naming, D: Disk>(office: &Office<N, D>, ended: bool) -> Working
+    ensures { result ≡ flusher_of office.now.machine ended }
+{
+    if office.broken() {
+        return Working::Broken;
     }
+    working_of(ended)
+}
 
-    /// How the desk stands.
-    fn state(&self, around: Around) -> DeskState
-        ensures { StoodSo N.origin result }
+impl<N: Naming, D: Disk> Held<Office<N, D>> {
+    /// How the desk stands. Refused is an office that was taken out (61).
+    fn state(&self, around: Around) -> Result<DeskState, Refusal>
+        ensures stands { IfOk result (λ state. ForSome self.now.office (λ office. StandsIn office.machine self.now.flusher_ended self.now.builder_ended state)) }
+        ensures stood { IfOk result (StoodSo N.origin) }
+        ensures around { IfOk result (λ state. (state.clients ≡ around.clients) × (state.pairs ≡ around.pairs) × (state.waiting ≡ around.waiting) × (state.uptime ≡ around.uptime)) }
+        ensures causes { IfErr result (λ refusal. (refusal ≡ closed) × (self.now.office ≡ None)) }
     {
-        DeskState {
-            shown: self.office.shown(),
-            durable: self.office.durable(),
-            accepted: self.office.latest(),
-            pending: self.office.pending(),
-            unchecked: u64::from(self.office.unchecked()),
-            pages: u64::from(self.office.journal_pages()),
-            landmarks: self.office.network().landmarks().len() as u64,
-            readers: self.office.readers(),
-            left: MOST_OF_LIFE as u64 - self.office.of_life(),
-            flusher: self.flusher_state(),
+        let office = self.there()?;
+        runs(office);
+        Ok(DeskState {
+            shown: office.shown(),
+            durable: office.durable(),
+            accepted: office.latest(),
+            pending: office.pending(),
+            unchecked: u64::from(office.unchecked()),
+            pages: u64::from(office.journal_pages()),
+            landmarks: office.network().landmarks().len() as u64,
+            readers: office.readers(),
+            left: MOST_OF_LIFE as u64 - office.of_life(),
+            flusher: flusher_of(office, self.flusher_ended),
             builder: working_of(self.builder_ended),
-            arcs: self.office.network().arcs().len() as u64,
-            room: u64::from(self.office.network().room()),
+            arcs: office.network().arcs().len() as u64,
+            room: u64::from(office.network().room()),
             clients: around.clients,
             pairs: around.pairs,
             waiting: around.waiting,
             uptime: around.uptime,
-        }
+        })
     }
 }
 
@@ -125,9 +132,9 @@ impl<N: Naming, D: Disk + Drop, G: Gate + Drop, R: Wait + Clock + Copy> Handle<N
         }
     }
 
-    /// How the desk stands: the numbers of its machine are taken under its lock, at one moment. It takes no memory.
+    /// The state of the desk: the numbers of its machine are read under its lock, at one moment. It takes no memory.
     ///
-    /// Refused is a desk that is closed (61).
+    /// It fails with 61 if the desk is closed.
     pub fn state(&self) -> Result<DeskState, Refusal>
         ensures stood { IfOk result (StoodSo N.origin) }
         ensures causes { IfErr result (λ refusal. refusal ≡ closed) }
@@ -139,6 +146,6 @@ impl<N: Naming, D: Disk + Drop, G: Gate + Drop, R: Wait + Clock + Copy> Handle<N
             uptime: self.uptime(),
         };
         let guard = self.shared.held.lock(&self.rt);
-        Ok(guard.there()?.state(around))
+        guard.state(around)
     }
 }

@@ -1,4 +1,4 @@
-// The two threads of a desk, started.
+// Starting the two threads of a desk.
 ghost use Rattle.std.specs.Prelude.{IfErr};
 ghost use Rattle.desk.specs.Openings.{IsUnstarted};
 
@@ -23,9 +23,9 @@ impl Started {
     }
 }
 
-/// Starts two threads over what they share. Where the system gives no thread (63), none runs.
+/// Starts two threads over what they share. If the system gives no thread (63), neither runs.
 ///
-/// The office's type is a parameter here, of which nothing is known but that it may go to another thread.
+/// Here the office's type is a parameter. Nothing is known of it except that it may go to another thread.
 pub(crate) fn start_threads<
     O: Send + Drop + 'static,
     G: Send + Sync + Drop + 'static,

@@ -13,28 +13,28 @@ pub struct DiskError;
 
 /// A disk has a content, a list of bytes. Each call can fail.
 ///
-/// What is said of contents and of stops holds where the disk is honest, and there alone a caller owes the conditions.
+/// What is said of contents and stops holds if the disk is honest. Only then does a caller owe the conditions.
 pub trait Disk {
-    /// The bytes that a read gives.
+    /// The bytes that reads give.
     ghost content: { Self → List ℕ };
 
     /// The contents that a stop may leave now.
     ghost left: { Self → List ℕ → Type 0 };
 
-    /// This moment, as a number that doesn't fall.
+    /// The present moment, as a number that never decreases.
     ghost moment: { Self → ℕ };
 
-    /// The contents that a stop at some moment from that one on might have left, during a call or between two.
+    /// The contents that a stop at that moment or a later one might have left, during a call or between two.
     ghost left_since: { Self → ℕ → List ℕ → Type 0 };
 
     /// How many calls have failed, up to 2^64 - 1, where the count stays.
     ghost failures: { Self → ℕ };
 
-    /// The disk keeps what is said of contents and of stops.
+    /// The disk does what is said of contents and stops.
     ghost honest: { Self → Type 0 };
 
-    /// What a member says of its own calls beside the disk model: whether the call, answered `Ok` or not, may lead
-    /// from the one disk to the other. A member that says no more leaves it out.
+    /// What an implementation says of its own calls beyond the disk model: whether the call, answered `Ok` or not, may lead from the one disk to the other.
+    /// An implementation that says no more leaves it out.
     ghost takes: { Self → DiskCall → Bool → Self → Type 0 } = { λ _ _ _ _. Unit {0} };
 
     /// The content's length.
@@ -58,8 +58,7 @@ pub trait Disk {
         ensures honest { honest self.new ↔ honest self.old }
         ensures takes { takes self.old (Read at (length into.old)) (is_ok result) self.new };
 
-    /// Writes over what is there, and past the end. From its beginning to the next sync that succeeds, a stop may
-    /// leave any bytes in the range.
+    /// Writes over what is there, and beyond the end. From its beginning until the next sync that succeeds, a stop may leave any bytes in the range.
     fn write_at(&mut self, at: u64, bytes: &[u8]) -> Result<(), DiskError>
         requires { honest self.old → at ≤ length (content self.old) }
         ensures written { honest self.old → OnOk result (content self.new ≡ overwritten (content self.old) at bytes.now) }
@@ -70,7 +69,7 @@ pub trait Disk {
         ensures honest { honest self.new ↔ honest self.old }
         ensures takes { takes self.old (Write at bytes.now) (is_ok result) self.new };
 
-    /// After it a stop leaves the content.
+    /// After this, a stop leaves the content.
     fn sync(&mut self) -> Result<(), DiskError>
         ensures durable { honest self.old → OnOk result (Only (content self.old) (left self.new)) }
         ensures content { honest self.old → content self.new ≡ content self.old }
@@ -83,9 +82,9 @@ pub trait Disk {
     /// A stop may leave the content as it is read.
     ghost leaves_content: { (disk : Self) → honest disk → left disk (content disk) };
 
-    /// This moment is one of those since an earlier one.
+    /// The present moment is among those since an earlier one.
     ghost counts_now: { (disk : Self) (t : ℕ) (c : List ℕ) → honest disk → t ≤ moment disk → left disk c → left_since disk t c };
 
-    /// Since this moment there is no other.
+    /// Since the present moment there is no other.
     ghost only_now: { (disk : Self) (c : List ℕ) → honest disk → left_since disk (moment disk) c → left disk c };
 }

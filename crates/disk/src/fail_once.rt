@@ -4,11 +4,11 @@ ghost use Rattle.disk.specs.Contents.{all_failures};
 
 use crate::{Disk, DiskError};
 
-/// Fails at one call, which is not made. Each other call passes on to the disk inside.
+/// Fails at one call, which is not made. Every other call is passed on to the disk inside.
 #[derive(Drop)]
 pub struct FailOnce<D> {
     inner: D,
-    // Which call from now fails, 0 for none.
+    // Which call from now on fails; 0 for none.
     fails_in: u64,
     failures: u64,
 }
@@ -16,8 +16,8 @@ pub struct FailOnce<D> {
 impl<D> FailOnce<D> {
     ghost use Rattle.disk.specs.Wrapped.{fail_once_inner, fail_once_failures, fails_in};
 
-    /// Fails at the k-th call from now on, of any of the four kinds, counted from 1. With k = 0 none fails. Its
-    /// failures are those of the disk inside until then.
+    /// Fails at the k-th call from now on, of any of the four kinds, counted from 1. With k = 0 none fails. Its count of failures is that of the disk
+    /// inside until then.
     pub fn new(inner: D, k: u64) -> Self
         ensures inner { fail_once_inner result ≡ inner }
         ensures fails_in { fails_in result ≡ k }
@@ -37,7 +37,7 @@ impl<D> FailOnce<D> {
         self.inner
     }
 
-    // Counts the call, and refuses it where it is the one that fails.
+    // Counts the call, and refuses it if it is the one that fails.
     fn admit(&mut self) -> Result<(), DiskError>
         ensures inner { self.new.inner ≡ self.old.inner }
         ensures counts { self.new.fails_in ≡ self.old.fails_in - 1 }

@@ -4,12 +4,11 @@ ghost use Rattle.disk.specs.Contents.{all_failures};
 
 use crate::{Disk, DiskError};
 
-/// Passes some writes and syncs on to the disk inside. The next write or sync and every call after it fail, and are
-/// not made.
+/// Passes some writes and syncs on to the disk inside. The next write or sync, and every call after it, fails and is not made.
 #[derive(Drop)]
 pub struct FuseDisk<D> {
     inner: D,
-    // How many writes and syncs still pass. None: the fuse has blown.
+    // How many more writes and syncs are passed on. None: the fuse has blown.
     passes: Option<u64>,
     failures: u64,
 }
@@ -17,7 +16,7 @@ pub struct FuseDisk<D> {
 impl<D> FuseDisk<D> {
     ghost use Rattle.disk.specs.Wrapped.{fuse_inner, passes_of, fuse_failures, burnt};
 
-    /// Passes k writes and syncs on. Its failures are those of the disk inside until it refuses a call.
+    /// Passes k writes and syncs on. Its count of failures is that of the disk inside until it refuses a call.
     pub fn new(inner: D, k: u64) -> Self
         ensures inner { fuse_inner result ≡ inner }
         ensures passes { passes_of result ≡ Some k }
@@ -37,7 +36,7 @@ impl<D> FuseDisk<D> {
         self.inner
     }
 
-    // Takes a write or sync off what the fuse passes.
+    // Counts down one write or sync.
     fn burn(&mut self)
         ensures inner { self.new.inner ≡ self.old.inner }
         ensures burns { self.new.passes ≡ burnt self.old.passes }

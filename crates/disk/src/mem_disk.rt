@@ -10,7 +10,7 @@ ghost use Rattle.disk.specs.declared.mem_disk.Recorded.TheVariants.{Wrote, Synce
 use crate::{Disk, DiskError, Pick, Stoppable};
 use std::alloc::{AllocError, Global};
 
-/// A write, with what it takes to undo it.
+/// A write, with what is needed to undo it.
 #[derive(Drop)]
 pub struct Write {
     pub at: usize,
@@ -19,31 +19,31 @@ pub struct Write {
     pub replaced: Vec<u8>,
 }
 
-/// A write or a sync that was made, as the disk's record has it.
+/// A write or a sync that was made, as recorded by the disk.
 #[derive(Drop)]
 pub enum Recorded {
     Wrote(Write),
     Synced,
 }
 
-/// A disk in memory, empty at first, for tests. It keeps a record of its writes and syncs. A growth that is refused in
-/// it is a failure of the disk, and it has no other but the armed call and those after it.
+/// A disk in memory for tests, empty at first. It records its writes and syncs. If memory runs out in it, the disk fails. Its only other failures are the
+/// armed call and those after it.
 #[derive(Drop)]
 pub struct MemDisk {
     alloc: Global,
     content: Vec<u8>,
     calls: Vec<Recorded>,
     failures: u64,
-    // How often a growth was refused.
+    // How often memory ran out.
     refusals: u64,
-    // How many writes and syncs it is to the armed one, itself counted; 0 where it came.
+    // How many writes and syncs remain until the armed one, including it; 0 once it has come.
     armed: Option<u64>,
 }
 
 impl MemDisk {
     ghost use Rattle.disk.specs.MemDisk.{bytes_of, armed_of, record_of, refusals_of};
 
-    /// An empty disk, which has not failed yet.
+    /// An empty disk that has not failed yet.
     pub fn new(alloc: Global) -> Self
         ensures empty { bytes_of result ≡ [] }
         ensures at_rest { Only [] (⟦<MemDisk as Disk>⟧.left result) }
@@ -61,7 +61,7 @@ impl MemDisk {
         }
     }
 
-    /// Its writes and syncs since it was made, or since it was stopped last, the earliest first.
+    /// Its writes and syncs since it was made, or since it was last stopped, the earliest first.
     pub fn calls(&self) -> &[Recorded]
         ensures { result.now ≡ record_of self.now }
     {
@@ -69,14 +69,14 @@ impl MemDisk {
     }
 }
 
-// Whether the armed call came.
+// Whether the armed call has come.
 fn has_come(armed: Option<u64>) -> bool
     ensures { IsTrue result ↔ (armed ≡ Some 0) }
 {
     armed == Some(0)
 }
 
-// What is armed after one write or sync more.
+// What is armed after one more write or sync.
 fn nearer(armed: Option<u64>) -> Option<u64>
     ensures { result ≡ nearer armed }
 {
@@ -91,7 +91,7 @@ fn fail(failures: &mut u64) -> DiskError
     DiskError
 }
 
-// Counts a growth that was refused, and with it a failure.
+// Counts that memory ran out, and with it a failure.
 fn refuse(refusals: &mut u64, failures: &mut u64) -> DiskError
     ensures refused { Rose refusals.old refusals.new }
     ensures failed { failures.new ≡ min (failures.old + 1) (2 ^ 64 - 1) }
@@ -100,7 +100,7 @@ fn refuse(refusals: &mut u64, failures: &mut u64) -> DiskError
     fail(failures)
 }
 
-// Writes the bytes over what is there, and past the end.
+// Writes the bytes over what is there, and beyond the end.
 fn overwrite(content: &mut Vec<u8>, at: usize, bytes: &[u8]) -> Result<(), AllocError>
     requires { at ≤ length content.old.items }
     ensures content { OnOk result (content.new.items ≡ overwritten content.old.items at bytes.now) }
@@ -150,7 +150,7 @@ fn overwrite_noted(
     Ok(())
 }
 
-// Overwrites, by which time goes on.
+// Overwrites, which advances the time.
 fn write_recorded(
     alloc: Global,
     content: &mut Vec<u8>,
@@ -174,7 +174,7 @@ fn write_recorded(
     overwrite_noted(alloc, content, calls, at, bytes)
 }
 
-// Records a sync, after which nothing is unsynced, whatever the content is.
+// Records a sync: then nothing is unsynced, whatever the content.
 fn record_sync(calls: &mut Vec<Recorded>) -> Result<(), AllocError>
     ensures durable { OnOk result ((now : List ℕ) → Only now (MayLeave (unsynced calls.new.items) now)) }
     ensures stop { OnOk result ((now : List ℕ) → AreAmong (MayLeave (unsynced calls.new.items) now) (MayLeave (unsynced calls.old.items) now)) }
@@ -227,7 +227,7 @@ impl Disk for MemDisk {
         self.armed = nearer(self.armed);
         let at = at as usize;
         match write_recorded(self.alloc, &mut self.content, &mut self.calls, at, bytes) {
-            // A write that is cut is made and not answered.
+            // A write that is cut is made but not answered.
             Ok(()) if has_come(self.armed) => Err(fail(&mut self.failures)),
             Ok(()) => Ok(()),
             Err(_) => Err(refuse(&mut self.refusals, &mut self.failures)),
@@ -261,7 +261,7 @@ impl Write {
         self.at <= place && place - self.at < self.count
     }
 
-    // The byte that it replaced at a place.
+    // The byte at a place that the write replaced.
     fn replaced_at(&self, place: usize) -> Option<u8>
         ensures { result ≡ replaced_at self.now place }
     {
@@ -272,7 +272,7 @@ impl Write {
         }
     }
 
-    // The length before the write, and the byte before it at a place, from those after it.
+    // The length before the write, and the byte at a place before it, given those after it.
     fn before(&self, total: usize, place: usize, byte: u8) -> (usize, u8)
         ensures total { result.0 ≡ min self.now.length_before total }
         ensures byte { result.1 ≡ (if nat_lt place (min self.now.length_before total) then unwrap_or (replaced_at self.now place) byte else 0) }
@@ -286,8 +286,7 @@ impl Write {
     }
 }
 
-// Whether a place was written since the last sync, and the synced byte there, of a content of this length and with
-// this byte there.
+// Whether a place was written since the last sync, and the synced byte there, given the content's length and its byte there.
 fn synced_byte(calls: &[Recorded], total: usize, place: usize, byte: u8) -> (bool, u8)
     ensures written { result.0 ≡ is_written (unsynced calls.now) place }
     ensures byte { IsSyncedByte calls.now total place byte result.1 }
@@ -374,7 +373,7 @@ fn take_picks(content: &mut [u8], calls: &[Recorded], picks: &[Pick])
     }
 }
 
-// Gives each place that was written since the last sync its pick, with which the record begins anew.
+// Gives each place that was written since the last sync its pick. Then the record begins anew.
 fn restart(content: &mut Vec<u8>, calls: &mut Vec<Recorded>, picks: &[Pick])
     requires { 0 < length picks.now }
     ensures picks { TakesPicks picks.now (before_writes (unsynced calls.old.items) content.old.items) (is_written (unsynced calls.old.items)) content.old.items content.new.items }

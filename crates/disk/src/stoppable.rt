@@ -9,7 +9,7 @@ use crate::Disk;
 /// What becomes of a byte that was written since the last sync.
 #[derive(Clone, Copy, Debug, PartialEq, Eq)]
 pub enum Pick {
-    /// The synced byte, 0 where there was none.
+    /// The synced byte, or 0 if there was none.
     Old,
     /// The byte that was written.
     New,
@@ -22,15 +22,14 @@ pub trait Stoppable: Disk {
     /// The content at the last sync that succeeded.
     ghost synced: { Self → List ℕ };
 
-    /// Whether a place was written since then.
+    /// Whether a place was written since the last sync.
     ghost is_unsynced: { Self → ℕ → Bool };
 
-    /// Which write or sync from now on is the armed one, the next one counted as 1; 0 where it came. None is armed at
-    /// `None`.
+    /// Which write or sync from now on is the armed one, where the next one is 1. It is 0 once that has come, and `None` if none is armed.
     ghost armed: { Self → Option ℕ };
 
-    /// The k-th write or sync from now on is cut: a write is made and not answered, a sync is not made. It and each
-    /// later call fail until the stop. Where an armed call has come already, that stays so. Nothing else is changed.
+    /// The k-th write or sync from now on is cut: a write is made but not answered, a sync is not made. It and each later call fail until the stop. If an
+    /// armed call has come already, that does not change. Nothing else is changed.
     fn arm(&mut self, k: u64)
         requires { 1 ≤ k }
         ensures armed { armed self.new ≡ armed_at k (armed self.old) }
@@ -43,9 +42,8 @@ pub trait Stoppable: Disk {
         ensures failures { Self.failures self.new ≡ Self.failures self.old }
         ensures honest { Self.honest self.new ↔ Self.honest self.old };
 
-    /// Stops, and starts again with what the stop left, all of it synced and no call armed. It answers whether an
-    /// armed call came. The i-th of the places that were written since the last sync, ascending, takes the pick `i mod
-    /// picks.len()`, i from 0.
+    /// Stops, and starts again with what the stop left, all of it synced and no call armed. It returns whether an armed call came. The i-th of the places
+    /// that were written since the last sync, in ascending order and i from 0, takes the pick `i mod picks.len()`.
     fn stop(&mut self, picks: &[Pick]) -> bool
         requires { 0 < length picks.now }
         ensures came { IsTrue result ↔ (armed self.old ≡ Some 0) }
@@ -56,17 +54,17 @@ pub trait Stoppable: Disk {
         ensures failures { Self.failures self.new ≡ Self.failures self.old }
         ensures honest { Self.honest self.new ↔ Self.honest self.old };
 
-    /// A stop may leave whatever agrees with the synced content outside the places written since, and nothing else.
+    /// A stop may leave exactly what agrees with the synced content outside the places written since.
     ghost left_is: { (disk : Self) (c : List ℕ) → Self.honest disk → Self.left disk c ↔ AgreesWithSynced (synced disk) (is_unsynced disk) (length (Self.content disk)) c };
 
-    /// Each write or sync brings the armed one nearer, and no other call does.
+    /// Each write or sync brings the armed one nearer. No other call does.
     ghost comes_nearer: { (old : Self) (call : DiskCall) (ok : Bool) (new : Self) → Self.takes old call ok new → armed new ≡ nearer_by call (armed old) };
 
-    /// A sync that succeeds makes the content the synced one, and no other call syncs.
+    /// A sync that succeeds makes the content the synced one. No other call syncs.
     ghost only_sync_syncs: { (old : Self) (call : DiskCall) (ok : Bool) (new : Self) → Self.takes old call ok new → synced new ≡ synced_by call ok (Self.content old) (synced old) };
 
-    /// A write that succeeds makes just its range unsynced, one that fails its range or nothing. A sync that succeeds
-    /// leaves nothing unsynced, and no other call changes that.
+    /// A write that succeeds makes exactly its range unsynced; one that fails, its range or nothing. A sync that succeeds leaves nothing unsynced. No other
+    /// call changes what is unsynced.
     ghost writes_unsync: { (old : Self) (call : DiskCall) (ok : Bool) (new : Self) → Self.takes old call ok new → IsUnsyncedBy call ok (is_unsynced old) (is_unsynced new) };
 
     /// The armed call fails, and so does each call after it.

@@ -8,18 +8,17 @@ use crate::{RawFile, SystemFile};
 use disk::{Disk, DiskError};
 use std::io;
 
-/// A disk in an open file. A read or write that the file does in part is finished or fails. Each call that fails is counted, up to
-/// `u64::MAX`.
+/// A disk in an open file. A read or write that the file does only in part is completed, or it fails. Each call that fails is counted, up to `u64::MAX`.
 ///
-/// It keeps the disk model where its file keeps the model of a file. No proof can know what a file of the system gives: that it
-/// is honest is a premise of what is said of contents and of stops.
+/// It keeps the disk model if its file keeps the model of a file. No proof can know what a file of the system does: that it is honest is a premise of what
+/// is said of contents and stops.
 #[derive(Drop)]
 pub struct FileDisk<F> {
     file: F,
     failures: u64,
 }
 
-/// The outcome, whose failure is counted.
+/// The outcome. A failure is counted.
 fn counted<T>(failures: &mut u64, outcome: Result<T, DiskError>) -> Result<T, DiskError>
     ensures outcome { result ≡ outcome }
     ensures counted { failures.new ≡ failures_after outcome failures.old }
@@ -47,13 +46,6 @@ impl<F> FileDisk<F> {
     {
         self.failures
     }
-
-    /// The file.
-    pub fn into_file(self) -> F
-        ensures { result ≡ file_of self }
-    {
-        self.file
-    }
 }
 
 impl FileDisk<SystemFile> {
@@ -61,8 +53,8 @@ impl FileDisk<SystemFile> {
     ghost use Rattle.filedisk.specs.Noted.{Duplicate, Done};
     ghost use Rattle.filedisk.specs.SystemFiles.{calls_of, calls_by};
 
-    /// The lock of the disk's file, to be let go before the disk is dropped. It is held still. The one error is of the system, which gives no
-    /// further handle.
+    /// The lock of the disk's file, which may be released before the disk is dropped. It is still held. The only error is that the system gives no further
+    /// handle.
     pub fn lock(&self) -> io::Result<FileLock>
         ensures { IfOk result (λ lock. calls_by lock ≡ (Duplicate, Done) ∷ calls_of self.now) }
     {

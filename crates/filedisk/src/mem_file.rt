@@ -1,4 +1,4 @@
-//! A file in memory that keeps its promise.
+//! A file in memory that keeps the model.
 ghost use Rattle.std.specs.Prelude.{◌≡◌, ◌+◌, ◌-◌, ◌<◌, ◌≤◌, ◌↔◌, ◌++◌, [], None, Ok, length, take, drop, slice_range, IsTrue, IfOk, IfErr, OnOk, OnErr};
 ghost use Rattle.std.specs.IoError.{error_kind};
 ghost use Rattle.std.specs.declared.io.ErrorKind.TheVariants.{BrokenPipe};
@@ -17,14 +17,14 @@ use std::alloc::Global;
 use std::io;
 use std::io::ErrorKind;
 
-/// A file in memory, empty at first: the model of a file that keeps what `RawFile` says. A read or a write does a part, where it is asked
-/// for more than so many bytes, and one call can fail. A stop leaves of it what one leaves of a `MemDisk`.
+/// A file in memory, empty at first: the model of a file that does what `RawFile` says. A read or a write does only a part if it is asked for more than so
+/// many bytes, and one call can fail. A stop leaves of it what it leaves of a `MemDisk`.
 #[derive(Drop)]
 pub struct MemFile {
     alloc: Global,
     disk: MemDisk,
     most: usize,
-    // Which call from now on fails, the next one counted as 1; 0 where none does.
+    // Which call from now on fails, where the next one is 1; 0 if none does.
     fails_in: u64,
     sync_failed: bool,
     notes: Notes,
@@ -32,7 +32,7 @@ pub struct MemFile {
     ghost unarmed: { armed_of disk ≡ None },
 }
 
-/// Whether this call is the one that fails, and which it is from then on.
+/// Whether this call is the one that fails. Also counts the call.
 fn comes_now(fails_in: &mut u64) -> bool
     ensures now { IsTrue result ↔ (fails_in.old ≡ 1) }
     ensures next { fails_in.new ≡ fails_in.old - 1 }
@@ -49,7 +49,7 @@ fn broken() -> io::Error
     io::Error::from(ErrorKind::BrokenPipe)
 }
 
-/// What a call answered that tells a length.
+/// The answer of a call that returns a length.
 fn as_size<'a>(answer: &io::Result<u64>) -> Answer<'a>
     ensures { outcome_of result ≡ told answer.now }
 {
@@ -59,7 +59,7 @@ fn as_size<'a>(answer: &io::Result<u64>) -> Answer<'a>
     }
 }
 
-/// What a call answered that tells how many bytes it wrote.
+/// The answer of a call that returns how many bytes it wrote.
 fn as_count<'a>(answer: &io::Result<usize>) -> Answer<'a>
     ensures { outcome_of result ≡ told answer.now }
 {
@@ -69,7 +69,7 @@ fn as_count<'a>(answer: &io::Result<usize>) -> Answer<'a>
     }
 }
 
-/// What the disk answered, but where the call fails.
+/// What the disk answered, unless the call fails.
 fn answered<T: Drop>(fails: bool, outcome: Result<T, DiskError>) -> io::Result<T>
     ensures told { IfOk result (λ value. outcome ≡ Ok value) }
     ensures kind { IfErr result (λ error. error_kind error ≡ BrokenPipe) }
@@ -80,7 +80,7 @@ fn answered<T: Drop>(fails: bool, outcome: Result<T, DiskError>) -> io::Result<T
     }
 }
 
-/// The length, but where the call fails.
+/// The length, unless the call fails.
 fn size_of(disk: &mut MemDisk, fails: bool) -> io::Result<u64>
     ensures length { IfOk result (λ n. n ≡ length (bytes_of disk.old)) }
     ensures same { IsSame disk.old disk.new }
@@ -90,7 +90,7 @@ fn size_of(disk: &mut MemDisk, fails: bool) -> io::Result<u64>
     answered(fails, outcome)
 }
 
-/// Puts so many bytes at most from `at` on to the front of `into`, but where the call fails.
+/// Puts at most so many bytes from `at` on into the front of `into`, unless the call fails.
 fn read_front(
     disk: &mut MemDisk,
     fails: bool,
@@ -111,7 +111,7 @@ fn read_front(
     Ok(count)
 }
 
-/// Writes the first of the bytes at `at`, so many at most. Where the call fails they may be written and not told.
+/// Writes at most so many of the bytes, from the first on, at `at`. If the call fails, they may be written nevertheless.
 fn write_front(
     disk: &mut MemDisk,
     fails: bool,
@@ -134,7 +134,7 @@ fn write_front(
     Ok(count)
 }
 
-/// Adds these bytes at the end, which is at `end`, or nothing.
+/// Appends these bytes at the end, which is at `end`, or nothing.
 fn append(disk: &mut MemDisk, end: u64, bytes: &[u8]) -> io::Result<()>
     requires end { end ≡ length (bytes_of disk.old) }
     requires unarmed { armed_of disk.old ≡ None }
@@ -150,7 +150,7 @@ fn append(disk: &mut MemDisk, end: u64, bytes: &[u8]) -> io::Result<()>
     }
 }
 
-/// Adds zeros up to this length, but where the call fails or there is no memory.
+/// Appends zeros up to this length, unless the call fails or there is no memory.
 fn grow(alloc: Global, disk: &mut MemDisk, fails: bool, size: u64) -> io::Result<()>
     requires longer { length (bytes_of disk.old) ≤ size }
     requires unarmed { armed_of disk.old ≡ None }
@@ -167,7 +167,7 @@ fn grow(alloc: Global, disk: &mut MemDisk, fails: bool, size: u64) -> io::Result
     }
 }
 
-/// Syncs, but where the call fails.
+/// Syncs, unless the call fails.
 fn sync_once(disk: &mut MemDisk, fails: bool) -> io::Result<()>
     requires { armed_of disk.old ≡ None }
     ensures durable { OnOk result (Only (bytes_of disk.old) (left_of disk.new)) }
@@ -184,8 +184,8 @@ fn sync_once(disk: &mut MemDisk, fails: bool) -> io::Result<()>
 }
 
 impl MemFile {
-    /// An empty file, of which no call has been made. It reads or writes `most` bytes at most a call. Its k-th call from now on fails, of
-    /// any kind, counted from 1; with k = 0 none does.
+    /// An empty file. It reads or writes at most `most` bytes in a call. Its k-th call from now on fails, of any kind, counted from 1; with k = 0 none
+    /// does.
     pub fn new(alloc: Global, most: usize, k: u64) -> MemFile
         ensures honest { ⟦<MemFile as RawFile>⟧.honest result }
         ensures empty { ⟦<MemFile as RawFile>⟧.content result ≡ [] }
@@ -202,8 +202,8 @@ impl MemFile {
         }
     }
 
-    /// Stops, and is opened again with what the stop left, as `Stoppable::stop` says it: each byte that was written since the last sync
-    /// takes its pick. No call has been made of it then.
+    /// Stops, and opens again with what the stop left, as `Stoppable::stop` says: each byte that was written since the last sync takes its pick. Then no
+    /// call of it has been made.
     pub fn stop(&mut self, picks: &[Pick])
         requires { 0 < length picks.now }
         ensures left { ⟦<MemFile as RawFile>⟧.left self.old (⟦<MemFile as RawFile>⟧.content self.new) }

@@ -1,4 +1,4 @@
-//! The calls that were made of a file of the system, for clauses alone.
+//! The calls that were made of a file of the system. Only clauses use them.
 ghost use Rattle.std.specs.Prelude.{◌≡◌, List, [], ◌∷◌};
 ghost use Rattle.std.specs.Borrow.{ftrue};
 ghost use Rattle.filedisk.specs.Noted.{NotedCall, noted};
@@ -6,7 +6,7 @@ ghost use Rattle.filedisk.specs.Noted.{NotedCall, noted};
 use std::io::ErrorKind;
 use std::marker::Model;
 
-/// Who else may have the file open for a disk meanwhile.
+/// Who else may have the file open at the same time, for a disk.
 #[derive(Clone, Copy, Drop)]
 pub(crate) enum Share {
     /// Nobody.
@@ -15,7 +15,7 @@ pub(crate) enum Share {
     WithReaders,
 }
 
-/// A call with what it was given.
+/// A call, with its arguments.
 #[derive(Clone, Copy, Drop)]
 pub(crate) enum Asked<'a> {
     Size,
@@ -26,7 +26,7 @@ pub(crate) enum Asked<'a> {
     SyncData,
     Lock(Share),
     SyncFolder,
-    /// Another handle of the file is made, with which the list of its calls goes on.
+    /// Another handle of the file is made. The list of its calls continues there.
     Duplicate,
     Unlock,
 }

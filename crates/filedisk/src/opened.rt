@@ -1,4 +1,4 @@
-//! Files opened for a disk.
+//! Opening files for a disk.
 ghost use Rattle.std.specs.Prelude.{◌≡◌, [], ◌∷◌, false, IfOk, IfErr, OnOk};
 ghost use Rattle.std.specs.IoError.{error_kind};
 ghost use Rattle.filedisk.specs.Files.{failures_of};
@@ -24,10 +24,10 @@ pub enum OpenError {
     /// There is no such file, or no such folder.
     #[error("there is no such file")]
     Missing,
-    /// The system doesn't permit that it is opened so.
+    /// The system does not permit opening it in this way.
     #[error("opening it is not permitted")]
     NotPermitted,
-    /// The system doesn't open it for another reason.
+    /// The system does not open it, for another reason.
     #[error("it can't be opened")]
     NotOpened,
     /// It is a folder.
@@ -39,10 +39,10 @@ pub enum OpenError {
     /// It is a link.
     #[error("it is a link")]
     Link,
-    /// Another opening of it is not shared with this one.
+    /// It is open elsewhere, and the lock is not shared.
     #[error("it is in use")]
     InUse,
-    /// The system can't lock it, as where its file system has no locks.
+    /// The system cannot lock it, for example because its file system has no locks.
     #[error("it can't be locked")]
     NoLocks,
     /// The name of a new file was not made durable.
@@ -53,10 +53,10 @@ pub enum OpenError {
     OutOfMemory,
 }
 
-/// Read and written by its owner and group, and read by all.
+/// Its owner and group may read and write it, and all may read it.
 const MODE: u32 = 0o664;
 
-/// Why a file is not opened at whose opening the system failed so.
+/// Why a file is not opened, given the system's error.
 pub fn why_unopened(error: &io::Error) -> OpenError
     ensures { result ≡ why_unopened (error_kind error.now) }
 {
@@ -68,7 +68,7 @@ pub fn why_unopened(error: &io::Error) -> OpenError
     }
 }
 
-/// Why a file is not locked at whose locking the system failed so.
+/// Why a file is not locked, given the system's error.
 fn why_unlocked(error: &io::Error) -> OpenError
     ensures { result ≡ why_unlocked (error_kind error.now) }
 {
@@ -78,19 +78,19 @@ fn why_unlocked(error: &io::Error) -> OpenError
     }
 }
 
-/// A file that this opening made, by its own name: no link is left to follow in the name's last part.
+/// A file that this opening made, under its own name: the last part of the name is not a link.
 #[derive(Drop)]
 pub struct MadeFile {
     path: PathBuf,
 }
 
-/// Removes the file of this name. The open file is lent for it, so its lock keeps others from the file until it is gone.
+/// Removes the file of this name. The open file is lent to the call, so its lock keeps others away until the file is gone.
 fn remove_locked<R: Files, F>(rt: &R, path: &PathBuf, _locked: &F) -> io::Result<()> {
     fs::remove_file(rt, path.as_path())
 }
 
 impl MadeFile {
-    /// Removes the file. Its disk is lent for it, so it is open still, and its lock keeps others from the file until it is gone.
+    /// Removes the file. Its disk is lent to the call, so the file is still open, and its lock keeps others away until it is gone.
     pub fn remove<R: Files>(self, rt: &R, locked: &FileDisk<SystemFile>) -> io::Result<()> {
         remove_locked(rt, &self.path, locked)
     }
@@ -101,11 +101,11 @@ impl MadeFile {
 pub struct NewFile {
     /// The file as a disk.
     pub disk: FileDisk<SystemFile>,
-    /// The file, where there was none and this opening made it.
+    /// The file, if there was none and this opening made it.
     pub made: Option<MadeFile>,
 }
 
-/// The file, locked, where no other opening keeps it from this one.
+/// The file, locked, unless another opening prevents that.
 fn lock_file(file: File, share: Share) -> Result<NotedFile<File>, OpenError>
     ensures calls { IfOk result (λ file. calls_made file ≡ (Lock share, Done) ∷ []) }
     ensures causes { IfErr result IsUnlocked }
@@ -117,7 +117,7 @@ fn lock_file(file: File, share: Share) -> Result<NotedFile<File>, OpenError>
     }
 }
 
-/// Refuses what is no file.
+/// Refuses what is not a regular file.
 fn look_at(file: &NotedFile<File>) -> Result<(), OpenError>
     ensures causes { IfErr result IsNotHad }
 {
@@ -128,7 +128,7 @@ fn look_at(file: &NotedFile<File>) -> Result<(), OpenError>
     }
 }
 
-/// The file, where it is one and no other opening keeps it from this one.
+/// The file, if it is a regular file and no other opening prevents its use.
 fn claim(file: File, share: Share) -> Result<NotedFile<File>, OpenError>
     ensures calls { IfOk result (λ file. calls_made file ≡ (Lock share, Done) ∷ []) }
     ensures causes { IfErr result IsNotHad }
@@ -147,8 +147,8 @@ fn disk_of(file: NotedFile<File>) -> FileDisk<SystemFile>
     FileDisk::new(SystemFile::new(file))
 }
 
-/// Opens a file that is there. What is no file is not opened at all: opening a device may do something, and opening a pipe to read it
-/// waits for a writer.
+/// Opens an existing file. What is not a regular file is not opened at all: opening a device may have an effect, and opening a pipe to read it waits for a
+/// writer.
 fn open_as<R: Files<File = File>>(
     rt: &R,
     path: &str,
@@ -168,7 +168,7 @@ fn open_as<R: Files<File = File>>(
     }
 }
 
-/// Opens a file that is there, to be read and written.
+/// Opens an existing file to read and write it.
 fn open_to_write<R: Files<File = File>>(rt: &R, path: &str) -> Result<File, OpenError>
     ensures causes { IfErr result IsNotHad }
 {
@@ -177,7 +177,7 @@ fn open_to_write<R: Files<File = File>>(rt: &R, path: &str) -> Result<File, Open
     open_as(rt, path, &options)
 }
 
-/// Opens a file that is there, to be read and written. It is locked for this opening alone until the disk is dropped.
+/// Opens an existing file to read and write it. It is locked for this opening alone until the disk is dropped.
 pub fn open_file<R: Files<File = File>>(
     rt: &R,
     path: &str,
@@ -191,7 +191,7 @@ pub fn open_file<R: Files<File = File>>(
     Ok(disk_of(file))
 }
 
-/// Opens a file that is there, to be read: each write of the disk fails. Until the disk is dropped it is locked, shared with others that
+/// Opens an existing file to read it: each write of the disk fails. Until the disk is dropped, the file is locked, and the lock is shared with others that
 /// read it.
 pub fn open_to_read<R: Files<File = File>>(
     rt: &R,
@@ -208,7 +208,7 @@ pub fn open_to_read<R: Files<File = File>>(
     Ok(disk_of(file))
 }
 
-/// The file of this name to be read and written, and whether it was made: there was none.
+/// The file of this name, to be read and written, and whether this call made it.
 fn open_or_make<R: Files<File = File>>(rt: &R, path: &str) -> Result<(File, bool), OpenError> {
     let mut options = OpenOptions::new();
     options.read(true).write(true).create_new(true).mode(MODE);
@@ -242,7 +242,7 @@ fn sync_name<R: Files<File = File>>(
     }
 }
 
-/// Looks at a file that was opened or made for a new store, and makes its name durable.
+/// Examines a file that was opened or made for a new store, and makes its name durable.
 fn settle<R: Files<File = File>>(
     rt: &R,
     file: &mut NotedFile<File>,
@@ -254,7 +254,7 @@ fn settle<R: Files<File = File>>(
     sync_name(rt, file, path)
 }
 
-/// What is had of a file that was opened under this name, or made there: it is locked for a new store, and its name is durable.
+/// A file that was opened under this name, or made there: locked for a new store, and with a durable name.
 fn settled<R: Files<File = File>>(
     rt: &R,
     path: PathBuf,
@@ -288,10 +288,10 @@ fn why_unnamed(error: &io::Error) -> OpenError {
     }
 }
 
-/// Opens a file as `open_file`, and makes an empty one where there is none; a link that leads to no file yet is followed, and the file made
-/// where it leads. Then the file's name is durable: the file and its folder are synced, once it is locked and known to be a file. What the
-/// file has stays. After an `Err` a file that was made is removed again, while it is locked; where it could not be locked it may be another's
-/// by then, so it stays, empty as it was made, and a later call takes it again.
+/// Opens a file as `open_file` does, and makes an empty one if there is none. A link that leads to no file yet is followed, and the file is made there.
+/// Then the file's name is made durable: the file and its folder are synced, once the file is locked and known to be a regular one. What the file contains
+/// stays. After an `Err`, a file that was made is removed again while it is locked. If it could not be locked, another program may own it by then: so it
+/// stays, empty as it was made, and a later call takes it again.
 pub fn create_file<R: AllocGlobal + Files<File = File>>(
     rt: &R,
     path: &str,
@@ -307,14 +307,14 @@ pub fn create_file<R: AllocGlobal + Files<File = File>>(
     settled(rt, path, file, is_new)
 }
 
-/// Whether an open file is the one of this name itself, and none to which a link leads.
+/// Whether an open file is itself the one of this name, and not one to which a link leads.
 fn is_named<R: Files<File = File>>(rt: &R, file: &File, path: &str) -> io::Result<bool> {
     let named = fs::symlink_metadata(rt, path)?;
     let opened = file.metadata()?;
     Ok(named.dev() == opened.dev() && named.ino() == opened.ino())
 }
 
-/// Opens or makes a file as `create_file`, in the folder of its name alone: a link of that name is refused, wherever it leads, and stays as it is.
+/// Opens or makes a file as `create_file` does, but only in the folder of its name: a link of that name is refused, wherever it leads, and stays as it is.
 pub fn create_file_here<R: AllocGlobal + Files<File = File>>(
     rt: &R,
     path: &str,

@@ -8,24 +8,24 @@ use std::io;
 
 /// A file whose calls may do less than they were asked for, and say how much. A call that fails may have done a part.
 ///
-/// What is said of contents and of stops holds where the file is honest, and there alone a caller owes the conditions.
+/// What is said of contents and stops holds if the file is honest. Only then does a caller owe the conditions.
 pub trait RawFile {
-    /// The calls that were made of the file, the newest first, with what they answered.
+    /// The calls that were made of the file, the newest first, with their answers.
     ghost calls: { Self → List NotedCall };
 
-    /// The bytes that a read gives.
+    /// The bytes that reads give.
     ghost content: { Self → List ℕ };
 
     /// The contents that a stop may leave now.
     ghost left: { Self → List ℕ → Type 0 };
 
-    /// This moment, as a number that doesn't fall.
+    /// The present moment, as a number that never decreases.
     ghost moment: { Self → ℕ };
 
-    /// The contents that a stop at some moment from that one on might have left.
+    /// The contents that a stop at that moment or a later one might have left.
     ghost left_since: { Self → ℕ → List ℕ → Type 0 };
 
-    /// The file keeps what is said of contents and of stops.
+    /// The file does what is said of contents and stops.
     ghost honest: { Self → Type 0 };
 
     /// The content's length.
@@ -35,7 +35,7 @@ pub trait RawFile {
         ensures same { honest self.old → Unchanged content left moment left_since self.old self.new }
         ensures honest { honest self.new ↔ honest self.old };
 
-    /// Puts bytes from `at` on to the front of `into`, and says how many.
+    /// Puts bytes from `at` on into the front of `into`, and returns how many.
     fn read_some(&mut self, at: u64, into: &mut [u8]) -> io::Result<usize>
         requires { honest self.old → at + length into.old ≤ length (content self.old) }
         ensures made { Makes (Read at (length into.old)) (gave into.new result) (calls self.old) (calls self.new) }
@@ -44,7 +44,7 @@ pub trait RawFile {
         ensures same { honest self.old → Unchanged content left moment left_since self.old self.new }
         ensures honest { honest self.new ↔ honest self.old };
 
-    /// Makes the file so long. It grows by zeros.
+    /// Gives the file this length. It grows by zeros.
     fn lengthen(&mut self, size: u64) -> io::Result<()>
         requires { honest self.old → length (content self.old) ≤ size }
         ensures made { calls self.new ≡ (Lengthen size, done result) ∷ calls self.old }
@@ -54,8 +54,8 @@ pub trait RawFile {
         ensures keeps { honest self.old → AreAmong (left self.old) (left self.new) }
         ensures honest { honest self.new ↔ honest self.old };
 
-    /// Writes the first of the bytes at `at`, within the length, and says how many. Until the next sync that succeeds, a stop
-    /// may leave any bytes in the range, and what it might have left before.
+    /// Writes the first of the bytes at `at`, within the length, and returns how many. Until the next sync that succeeds, a stop may leave any bytes in the
+    /// range, and what it might have left before.
     fn write_some(&mut self, at: u64, bytes: &[u8]) -> io::Result<usize>
         requires { honest self.old → at + length bytes.now ≤ length (content self.old) }
         ensures made { Makes (Write at bytes.now) (told result) (calls self.old) (calls self.new) }
@@ -65,8 +65,8 @@ pub trait RawFile {
         ensures keeps { honest self.old → AreAmong (left self.old) (left self.new) }
         ensures honest { honest self.new ↔ honest self.old };
 
-    /// After it a stop leaves the content. Once a sync failed each later one fails, and is not made: what the file keeps of the writes
-    /// before is not known then.
+    /// After this, a stop leaves the content. Once a sync has failed, each later one fails and is not made: it is then not known what the file keeps of the
+    /// earlier writes.
     fn sync(&mut self) -> io::Result<()>
         ensures made { has_failed_sync (calls self.old) ≡ false → MakesSync (done result) (calls self.old) (calls self.new) }
         ensures refused { has_failed_sync (calls self.old) ≡ true → IsErr result × calls self.new ≡ calls self.old }
@@ -77,9 +77,9 @@ pub trait RawFile {
     /// A stop may leave the content as it is read.
     ghost leaves_content: { (file : Self) → honest file → left file (content file) };
 
-    /// This moment is one of those since an earlier one.
+    /// The present moment is among those since an earlier one.
     ghost counts_now: { (file : Self) (t : ℕ) (c : List ℕ) → honest file → t ≤ moment file → left file c → left_since file t c };
 
-    /// Since this moment there is no other.
+    /// Since the present moment there is no other.
     ghost only_now: { (file : Self) (c : List ℕ) → honest file → left_since file (moment file) c → left file c };
 }

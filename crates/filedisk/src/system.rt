@@ -1,6 +1,5 @@
-//! The system's calls on an open file, each noted with its answer. No clause can see the system: that each function here makes the call
-//! which it notes, of this file, is to be read here, and nowhere else. They are the calls of any file, so that tests can hold one that tells
-//! which call it got.
+//! The system's calls on an open file, each noted with its answer. No clause can see the system: only by reading this file can one check that each function
+//! here makes the call that it notes, of this file. The functions take any type of file, so that tests can use one that reports which calls it got.
 ghost use Rattle.std.specs.Prelude.{◌≡◌, ◌≤◌, [], ◌∷◌, length, IfOk};
 ghost use Rattle.filedisk.specs.Noted.{Size, Read, Write, Lengthen, SyncAll, SyncData, Lock, SyncFolder, Duplicate, Unlock, Done, call_of, outcome_of, told, done, gave};
 
@@ -16,9 +15,9 @@ pub struct NotedFile<F> {
     notes: Notes,
 }
 
-/// The lock of a file that a disk has open, which may be let go before the disk is dropped: once nothing more is read of the disk and nothing
-/// written, others need not wait for its end. It is another handle of the file; dropped, it leaves the lock as it is. What it does is noted
-/// of this handle, and not of the disk's.
+/// The lock of a file that a disk has open. It may be released before the disk is dropped: once nothing more is read from the disk or written to it, others
+/// need not wait for its end. It is another handle of the file; if it is dropped, the lock stays as it is. Its calls are noted for this handle, and not for
+/// the disk's.
 #[derive(Drop)]
 pub struct FileLock {
     file: NotedFile<File>,
@@ -27,7 +26,7 @@ pub struct FileLock {
 impl FileLock {
     ghost use Rattle.filedisk.specs.SystemFiles.{calls_by};
 
-    /// Lets the lock go: others may lock the file from then on.
+    /// Releases the lock: from then on others may lock the file.
     pub fn let_go(&mut self) -> io::Result<()>
         ensures { calls_by self.new ≡ (Unlock, done result) ∷ calls_by self.old }
     {
@@ -35,7 +34,7 @@ impl FileLock {
     }
 }
 
-/// What a call answered that tells nothing.
+/// The answer of a call that returns nothing.
 pub(crate) fn as_done<'a>(answer: &io::Result<()>) -> Answer<'a>
     ensures { outcome_of result ≡ done answer.now }
 {
@@ -68,7 +67,7 @@ impl<F> NotedFile<F> {
 impl<F: OpenFile> NotedFile<F> {
     ghost use Rattle.filedisk.specs.SystemFiles.{calls_made};
 
-    /// Whether it is a file: no folder, device or pipe. It asks of no content, and isn't noted.
+    /// Whether it is a regular file, and not a folder, device or pipe. This call is not noted, since it does not concern the content.
     pub(crate) fn is_file(&self) -> io::Result<bool> {
         let metadata = self.file.metadata()?;
         Ok(metadata.is_file())
@@ -91,7 +90,7 @@ impl<F: OpenFile> NotedFile<F> {
         }
     }
 
-    /// Makes the file so long.
+    /// Gives the file this length.
     pub(crate) fn lengthen(&mut self, size: u64) -> io::Result<()>
         ensures { self.new.notes.calls ≡ (Lengthen size, done result) ∷ self.old.notes.calls }
     {
@@ -100,7 +99,7 @@ impl<F: OpenFile> NotedFile<F> {
         answer
     }
 
-    /// Syncs the data, and all that tells of the file.
+    /// Syncs the data, and everything that describes the file.
     pub fn sync_all(&mut self) -> io::Result<()>
         ensures { calls_made self.new ≡ (SyncAll, done result) ∷ calls_made self.old }
     {
@@ -109,7 +108,7 @@ impl<F: OpenFile> NotedFile<F> {
         answer
     }
 
-    /// Syncs the data, and what it takes to read it again.
+    /// Syncs the data, and what is needed to read it again.
     pub fn sync_data(&mut self) -> io::Result<()>
         ensures { calls_made self.new ≡ (SyncData, done result) ∷ calls_made self.old }
     {
@@ -118,7 +117,7 @@ impl<F: OpenFile> NotedFile<F> {
         answer
     }
 
-    /// Syncs the folder in which the file stands.
+    /// Syncs the folder of the file.
     pub fn sync_folder(&mut self, folder: &F) -> io::Result<()>
         ensures { calls_made self.new ≡ (SyncFolder, done result) ∷ calls_made self.old }
     {
@@ -158,8 +157,8 @@ impl<F: FileExt> NotedFile<F> {
 }
 
 impl NotedFile<File> {
-    /// Locks the file for this opening of it, until it is closed or the lock let go, and waits for nobody. Two openings, of one program or of
-    /// two, don't lock it at once, but where both share it.
+    /// Locks the file for this opening, until it is closed or the lock is released, and waits for nobody. Two openings, of one program or of two, do not
+    /// lock it at the same time unless both share it.
     pub(crate) fn lock(&mut self, share: Share) -> io::Result<()>
         ensures { self.new.notes.calls ≡ (Lock share, done result) ∷ self.old.notes.calls }
     {
@@ -175,7 +174,7 @@ impl NotedFile<File> {
         answer
     }
 
-    /// Lets the lock go that this opening of the file has.
+    /// Releases the lock that this opening of the file has.
     fn unlock(&mut self) -> io::Result<()>
         ensures { self.new.notes.calls ≡ (Unlock, done result) ∷ self.old.notes.calls }
     {
@@ -184,7 +183,7 @@ impl NotedFile<File> {
         answer
     }
 
-    /// The lock of the file, to be let go before the file is closed.
+    /// The lock of the file, which may be released before the file is closed.
     pub(crate) fn held(&self) -> io::Result<FileLock>
         ensures { IfOk result (λ lock. lock.file.notes.calls ≡ (Duplicate, Done) ∷ self.now.notes.calls) }
     {

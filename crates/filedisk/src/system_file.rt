@@ -10,8 +10,8 @@ use std::io::ErrorKind;
 
 /// An open file of the system.
 ///
-/// After a sync that failed each later one fails, and is not made: the system may have forgotten what it did not write then. Where the
-/// length is as it was at a sync of all that tells of the file, a sync is one of the data.
+/// Once a sync has failed, each later one fails and is not made: the system may have forgotten what it had not written. If the length is what it was at a
+/// sync of everything that describes the file, a sync only syncs the data.
 #[derive(Drop)]
 pub struct SystemFile {
     file: NotedFile<File>,
@@ -21,10 +21,10 @@ pub struct SystemFile {
     ghost synced: { length_synced ≡ true → has_synced_length file.notes.calls ≡ true },
 }
 
-/// How often a call is made again that a signal interrupts.
+/// How often a call that a signal interrupts is repeated.
 const MOST_TRIES: u32 = 1_000_000;
 
-/// Writes once, and again where a signal interrupts the call.
+/// Writes once, and repeats the call if a signal interrupts it.
 fn write_uninterrupted(file: &mut NotedFile<File>, at: u64, bytes: &[u8]) -> io::Result<usize>
     ensures bound { IfOk result (λ n. n ≤ length bytes.now) }
     ensures made { Makes (Write at bytes.now) (told result) file.old.notes.calls file.new.notes.calls }
@@ -39,7 +39,7 @@ fn write_uninterrupted(file: &mut NotedFile<File>, at: u64, bytes: &[u8]) -> io:
     file.write(at, bytes)
 }
 
-/// Reads once, and again where a signal interrupts the call.
+/// Reads once, and repeats the call if a signal interrupts it.
 fn read_uninterrupted(file: &mut NotedFile<File>, at: u64, into: &mut [u8]) -> io::Result<usize>
     ensures bound { IfOk result (λ n. n ≤ length into.old) }
     ensures made { Makes (Read at (length into.old)) (gave into.new result) file.old.notes.calls file.new.notes.calls }

@@ -1,4 +1,4 @@
-//! Calls of a file that are finished or fail.
+//! Calls of a file that are completed or fail.
 ghost use Rattle.std.specs.Prelude.{◌≡◌, ◌+◌, ◌≤◌, ◌↔◌, length, slice_range, OnOk, OnErr};
 ghost use Rattle.disk.specs.Contents.{overwritten, AreAmong, PartlyWritten};
 ghost use Rattle.filedisk.specs.Files.{Unchanged, Tears, lengthened};
@@ -64,7 +64,7 @@ fn write_within<F: RawFile>(file: &mut F, at: u64, bytes: &[u8]) -> Result<(), D
     Ok(())
 }
 
-/// Makes the file as long as these bytes need, where it is shorter.
+/// Makes the file as long as these bytes need, if it is shorter.
 fn make_room<F: RawFile>(file: &mut F, at: u64, count: usize) -> Result<(), DiskError>
     requires { F.honest file.old → at ≤ length (F.content file.old) }
     ensures made { OnOk result (MakesRoom (at + count) (F.calls file.old) (F.calls file.new)) }
@@ -89,8 +89,8 @@ fn make_room<F: RawFile>(file: &mut F, at: u64, count: usize) -> Result<(), Disk
     }
 }
 
-/// Writes all of the bytes at `at`, over what is there and past the end. What is past the end is first made part of the file, so that
-/// a write that fails leaves the old length or the one of success.
+/// Writes all of the bytes at `at`, over what is there and beyond the end. The file is first lengthened, so that a write that fails leaves the old length
+/// or the new one.
 pub(crate) fn write_whole<F: RawFile>(file: &mut F, at: u64, bytes: &[u8]) -> Result<(), DiskError>
     requires { F.honest file.old → at ≤ length (F.content file.old) }
     ensures made { OnOk result (WritesWhole at bytes.now (F.calls file.old) (F.calls file.new)) }

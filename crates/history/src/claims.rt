@@ -22,12 +22,11 @@ impl Model for Claim {
     ghost invariant = { λ c. EndsWith c.front c.ticket };
 }
 
-/// The token of a receipt: its group has its number in the history of its desk, and was acknowledged. Contracts see it as the ticket,
-/// with the desk.
+/// The token of a receipt: its group has its number in the history of its desk, and was acknowledged. Contracts see it as the ticket, with the desk.
 #[derive(Drop)]
 pub struct Settled {
     pub(crate) claim: Claim,
-    /// A beginning of the history that has the group, and in which it is acknowledged.
+    /// A front of the history that has the group, and in which the group is acknowledged.
     pub(crate) front: Front,
 }
 
@@ -50,7 +49,7 @@ impl Claim {
         &self.ticket
     }
 
-    /// The beginning of the history that ends with the ticket's group.
+    /// The front of the history that ends with the ticket's group.
     pub fn front(&self) -> &Front
         ensures origin { result.now.origin ≡ self.now.origin }
         ensures ends { EndsWith result.now self.now.ticket }
@@ -67,7 +66,7 @@ impl Settled {
         &self.claim
     }
 
-    /// A beginning of the history in which the group has its number and is acknowledged.
+    /// A front of the history in which the group has its number and is acknowledged.
     pub fn front(&self) -> &Front
         ensures origin { result.now.origin ≡ self.now.origin }
         ensures acknowledged { IsAcknowledgedIn result.now self.now.ticket }

@@ -2,7 +2,7 @@ use logbook::Pen;
 use roadnet::{Group, Network};
 use std::snapshot::Snapshot;
 
-/// The network and version that a desk is opened with, as contracts see them.
+/// The network and version with which a desk was opened, as contracts see them.
 #[derive(Drop)]
 pub struct Base {
     pub network: Snapshot<Network>,
@@ -22,7 +22,7 @@ pub enum Entry {
     Closed,
 }
 
-/// An entry as it stands in a book, as contracts see it: beside it the pen that wrote it, and the one that writes the next.
+/// An entry in a book, as contracts see it: with the pen that wrote it, and the pen that writes the next one.
 #[derive(Drop)]
 pub struct Link {
     pub entry: Entry,

@@ -7,7 +7,7 @@ use crate::rules::Law;
 use logbook::Seen;
 use std::marker::Model;
 
-/// A beginning of a desk's history. Contracts see it as its groups, with the desk.
+/// A front of a desk's history: its first groups. Contracts see it as these groups, with the desk.
 #[derive(Drop)]
 pub struct Front {
     pub(crate) count: u64,
@@ -49,7 +49,7 @@ impl Front {
         }
     }
 
-    /// The first of its groups, as many as are asked for.
+    /// The first of its groups, as many as asked for.
     pub fn first(&self, count: u64) -> Front
         requires { count ≤ length self.now.groups }
         ensures { result ≡ record self.now { groups = take count self.now.groups } }
@@ -61,7 +61,7 @@ impl Front {
         }
     }
 
-    /// Whether the other, of the same desk, begins with these groups. Else it is shorter, and these begin with its own.
+    /// Whether the other front, of the same desk, begins with these groups. Otherwise it is shorter, and these begin with its own.
     pub fn begins(&self, other: &Front) -> bool
         requires { other.now.origin ≡ self.now.origin }
         ensures { MatchBool result (IsPrefix self.now.groups other.now.groups) (IsPrefix other.now.groups self.now.groups × (length other.now.groups < length self.now.groups)) }
@@ -71,7 +71,7 @@ impl Front {
         self.count <= other.count
     }
 
-    /// A beginning of their history with which both begin: it has the groups of the longer, and all that either knows to be acknowledged.
+    /// A front of their history with which both agree: it has the groups of the longer one, and everything that either knows to be acknowledged.
     pub fn joined(&self, other: &Front) -> Front
         requires { other.now.origin ≡ self.now.origin }
         ensures origin { result.origin ≡ self.now.origin }

@@ -16,15 +16,14 @@ use roadnet::{Group, Network};
 use std::marker::Model;
 use std::snapshot::Snapshot;
 
-/// A history that may grow, seen whole. It has the pen of its next entry, so nobody else writes one. Contracts see it as its groups, with
-/// the desk.
+/// A history that may grow, seen as a whole. It has the pen of its next entry, so nobody else writes one. Contracts see it as its groups, with the desk.
 #[derive(Drop)]
 pub struct History {
     head: Word<Link, u64, Law>,
     pen: Pen,
     /// How many groups there are.
     count: u64,
-    /// The version that the desk was opened with.
+    /// The version with which the desk was opened.
     version: u64,
     root: Root,
     seen: Seen<Link, u64, Law>,
@@ -49,7 +48,7 @@ impl Model for History {
         × (h.pen.nib.right ≡ may_write) × (h.pen.nib.key ≡ next_pen h.root h.seen.log) × (h.count ≤ 2 ^ 62) };
 }
 
-/// A history that is closed. Contracts see it as its groups, with the desk.
+/// A closed history. Contracts see it as its groups, with the desk.
 #[derive(Drop)]
 pub struct Whole {
     root: Root,
@@ -84,7 +83,7 @@ fn counted(entry: &Entry) -> u64
 }
 
 impl History {
-    /// The history of a desk that is opened with this network and version: no group is there yet. It takes no memory.
+    /// The history of a desk that is opened with this network and version: it has no group yet. It takes no memory.
     pub fn new(network: &Network, version: u64) -> History
         ensures base { (result.origin.base ≡ network.now) × (result.origin.version ≡ version) }
         ensures empty { (result.groups ≡ []) × (result.acknowledged ≡ 0) }
@@ -123,7 +122,7 @@ impl History {
         self.count
     }
 
-    /// Adds an entry behind the others.
+    /// Appends an entry.
     fn put(&mut self, entry: Entry)
         requires endless { is_endless (entry ∷ []) ≡ true }
         requires room { (counted entry ≡ 0) ⊎ (length self.old.groups < 2 ^ 62) }
@@ -145,7 +144,7 @@ impl History {
         self.count += more;
     }
 
-    /// Writes an accepted group behind the others. It answers false only where the history has 2^62 groups, and then nothing is written.
+    /// Appends an accepted group. It returns false only if the history has 2^62 groups; then nothing is written.
     pub fn write(&mut self, group: &Group) -> bool
         ensures written { MatchBool result (self.new ≡ record self.old { groups = self.old.groups ++ group.now ∷ [] }) (self.new ≡ self.old) }
         ensures room { length self.old.groups < 2 ^ 62 → result ≡ true }
@@ -158,14 +157,14 @@ impl History {
         true
     }
 
-    /// Writes that the groups up to a number are acknowledged.
+    /// Records that the groups up to a number are acknowledged.
     pub fn acknowledge(&mut self, number: u64)
         ensures { self.new ≡ record self.old { acknowledged = max self.old.acknowledged number } }
     {
         self.put(Entry::Acknowledged { number });
     }
 
-    /// The first groups, as many as are asked for.
+    /// The first groups, as many as asked for.
     pub fn front(&self, count: u64) -> Front
         requires { count ≤ length self.now.groups }
         ensures { result ≡ record self.now { groups = take count self.now.groups } }
@@ -186,7 +185,7 @@ impl History {
         Claim { ticket, front }
     }
 
-    /// The token of a receipt for a claim up to whose number groups are acknowledged.
+    /// The token of a receipt for a claim. Groups are acknowledged up to at least its number.
     pub fn settled(&self, claim: Claim) -> Settled
         requires origin { claim.origin ≡ self.now.origin }
         requires acknowledged { claim.ticket.number ≤ self.now.acknowledged }
@@ -198,7 +197,7 @@ impl History {
         }
     }
 
-    /// Whether the claim's group has its number in the history. Else the history is too short for the number.
+    /// Whether the claim's group has its number in the history. Otherwise the history is too short for the number.
     pub fn holds(&self, claim: &Claim) -> bool
         requires { claim.now.origin ≡ self.now.origin }
         ensures { MatchBool result (IsAt self.now.origin.version self.now.groups claim.now.ticket) (self.now.origin.version + length self.now.groups < claim.now.ticket.number) }
@@ -206,7 +205,7 @@ impl History {
         self.begins(&claim.front)
     }
 
-    /// Whether the history has as many groups as the beginning, which then begins it.
+    /// Whether the history has as many groups as the front. Then the front begins it.
     pub fn begins(&self, front: &Front) -> bool
         requires { front.now.origin ≡ self.now.origin }
         ensures { MatchBool result (IsPrefix front.now.groups self.now.groups) (length self.now.groups < length front.now.groups) }
@@ -241,7 +240,7 @@ impl History {
 }
 
 impl Whole {
-    /// Each beginning of the history begins it.
+    /// Each front of the history begins it.
     pub fn holds(&self, front: &Front)
         requires { front.now.origin ≡ self.now.origin }
         ensures groups { IsPrefix front.now.groups self.now.groups }

@@ -1,5 +1,5 @@
-//! The history of a desk: the list of the groups that it accepted, which only grows and is closed once. The list stands in proofs
-//! alone; what threads carry is a beginning of it, which may be copied and compared.
+//! The history of a desk: the list of the groups that it accepted, which only grows and is closed once. The list exists only in proofs. What threads carry
+//! is a front of it, which may be copied and compared.
 #![tactic(auto)]
 
 mod claims;

@@ -1,4 +1,4 @@
-// Entries written by pens. Who has a pen alone may write the one entry that it stands for, so nobody comes in between.
+// Entries written by pens. Only the holder of a pen may write the one entry that it stands for, so nobody writes an entry in between.
 ghost use Rattle.std.specs.Prelude.{◌≡◌};
 ghost use Rattle.logbook.specs.Pages.{may_write};
 ghost use Rattle.history.specs.Rules.{head_of, WritesBehind};
@@ -16,7 +16,7 @@ pub(crate) fn new_pen(head: &Word<Link, u64, Law>, seen: &Seen<Link, u64, Law>) 
 {
     let mut seen = seen.again();
     let mut pen = seen.no_pen();
-    // The step writes no entry, so it doesn't matter which it asks for.
+    // The step writes no entry, so it does not matter which one it asks for.
     let unwritten = Link {
         entry: Entry::Closed,
         pen: Snapshot::of(&pen),
@@ -28,7 +28,7 @@ pub(crate) fn new_pen(head: &Word<Link, u64, Law>, seen: &Seen<Link, u64, Law>) 
     pen
 }
 
-/// Writes the entry that the pen stands for: behind all that was seen, and behind entries of other pens.
+/// Writes the entry that the pen stands for: after everything that was seen, and after entries of other pens.
 pub(crate) fn write(
     head: &Word<Link, u64, Law>,
     seen: &mut Seen<Link, u64, Law>,

@@ -23,7 +23,7 @@ impl Model for Root {
 }
 
 impl Root {
-    /// The name of what this pen begins.
+    /// The name of the history that this pen begins.
     pub(crate) fn of(pen: &Pen) -> Root
         ensures { result ≡ pen.now.nib.key }
     {

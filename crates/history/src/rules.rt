@@ -1,9 +1,9 @@
-// The rule of a history's book, and what its steps tell.
+// The rule of a history's book, and what its steps show.
 use crate::entries::Link;
 use logbook::{Gain, Opening, Pen, Plain, Play, Rule};
 use std::snapshot::Snapshot;
 
-/// The rule of the book: who writes an entry gives up its pen.
+/// The rule of the book: whoever writes an entry gives up its pen.
 pub struct Law;
 
 impl Rule<Link, u64> for Law {

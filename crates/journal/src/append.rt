@@ -13,7 +13,7 @@ use disk::{Disk, DiskError, write_gated};
 use pages::{GATE_AT, Header, PAGE_SIZE, encode_journal_page};
 use roadnet::Group;
 
-/// All of a page but its gate.
+/// All of a page except its gate.
 fn body_of(page: &[u8; PAGE_SIZE]) -> &[u8]
     ensures bytes { result.now ≡ body page.now }
     ensures size { length result.now ≡ gate_at }
@@ -21,11 +21,11 @@ fn body_of(page: &[u8; PAGE_SIZE]) -> &[u8]
     &page[..GATE_AT]
 }
 
-/// Writes the journal page of these groups, of 1 to 253 commands in all, at the place of this sequence, over the page that stands there: its gate is closed
-/// where it reads open, then the body is written, then the gate is opened. The first group has this number. A sync stands behind each
-/// of these writes, so there are four writes and syncs, or six.
+/// Writes the journal page of these groups, of 1 to 253 commands in all, at the place of this sequence, over the page that is there: first the old gate is
+/// closed if it reads open, then the body is written, then the gate is opened. The first group has this number. A sync follows each of these writes, so
+/// there are four writes and syncs, or six.
 ///
-/// A sync stands before it too: the content is all that a stop may leave. It takes no memory beside one page.
+/// A sync must also precede it: a stop may leave only the content. It takes no memory beside one page.
 pub fn append_page<D: Disk>(
     disk: &mut D,
     header: &Header,
@@ -39,7 +39,7 @@ pub fn append_page<D: Disk>(
     requires fits { All (FitsRecord two) (commands_of groups.now) }
     requires at_rest { D.honest disk.old → Only (D.content disk.old) (D.left disk.old) }
     ensures written { D.honest disk.old → OnOk result (D.content disk.new ≡ with_page (D.content disk.old) (page_size * journal_page_at header.now sequence) (body (entry_page (record { sequence = sequence; first_number = first_number; groups = groups.now })))) }
-    // A stop at any moment of the call leaves the old page whole, the new one whole, or a closed gate.
+    // A stop during the call leaves the old page whole, the new one whole, or a closed gate.
     ensures writes { Writes D.Disk (IsWholeOrShut (D.content disk.old) (page_size * journal_page_at header.now sequence) (body (entry_page (record { sequence = sequence; first_number = first_number; groups = groups.now })))) result disk.old disk.new }
 {
     let page = encode_journal_page(sequence, first_number, groups);

@@ -1,4 +1,4 @@
-//! The journal of a store: a ring of pages, in which one page of commands follows the other.
+//! The journal of a store: a ring of pages of commands, written one after the other.
 #![tactic(auto)]
 
 mod append;

@@ -11,7 +11,7 @@ use pagereader::read_open_number;
 use pages::Header;
 use std::marker::Model;
 
-/// The places of the journal: the page of a sequence stands at the place of its remainder.
+/// The places of the journal: the page of a sequence is at the place of its remainder.
 #[derive(Debug, Drop)]
 pub struct Ring {
     journal_pages: u32,
@@ -29,7 +29,7 @@ impl Model for Ring {
     ghost invariant = { λ r. ArePlaces (record { journal_pages = r.journal_pages; first_unchecked = r.first_unchecked; next_sequence = r.next_sequence }) };
 }
 
-// Whether the page at the place of this sequence is open and has it.
+// Whether the page at the place of this sequence is open and has this sequence.
 fn is_standing<D: Disk>(disk: &mut D, header: &Header, sequence: u64) -> Result<bool, DiskError>
     requires file { HasFileOf D.Disk header.now disk.old }
     ensures answer { D.honest disk.old → IfOk result (λ answer. answer ≡ is_standing (page (D.content disk.old)) header.now sequence) }
@@ -42,8 +42,8 @@ fn is_standing<D: Disk>(disk: &mut D, header: &Header, sequence: u64) -> Result<
 }
 
 impl Ring {
-    /// Finds the pages that stand one after the other from this sequence on, by their gates and sequences alone: they are unchecked, and the
-    /// page that is written next follows them. Nothing is changed.
+    /// Finds the consecutive pages from this sequence on, only by their gates and sequences: they are unchecked, and the page that is written next follows
+    /// them. It changes nothing.
     pub fn collect<D: Disk>(disk: &mut D, header: &Header, from: u64) -> Result<Ring, DiskError>
         requires file { HasFileOf D.Disk header.now disk.old }
         requires from { from ≤ most_versions }
@@ -75,7 +75,7 @@ impl Ring {
         }
     }
 
-    /// How many pages are unchecked: those before the page that is written next, from the current slot's next sequence on.
+    /// How many pages are unchecked: those from the current slot's next sequence on, before the page that is written next.
     pub fn unchecked(&self) -> u32
         ensures count { result + self.now.first_unchecked ≡ self.now.next_sequence }
         ensures few { result ≤ self.now.journal_pages }

@@ -14,13 +14,13 @@ use rows::Query;
 use std::thread::Threads;
 
 impl<D: Disk> Keeper<D> {
-    /// Answers a query from the view that is shown: the answer names the version, and its reply is right in the network at it. No later
-    /// stop takes that version back.
+    /// Answers a query from the shown view: the answer names the version, and its reply is right in the network at that version. No later stop takes that
+    /// version back.
     ///
-    /// The one error is want of memory for a row. A query that is refused takes none, nor does one from a landmark or for a bound.
+    /// The only error is lack of memory for a row. A refused query takes none, and neither does one from a landmark or for a bound.
     ///
-    /// On a new store of `examples/six.gr`, `Dist { source: 1, target: 6 }` is `Length(15)` at version 0. With `Close { arc: 7 }` accepted and flushed
-    /// it still is; once the view of version 1 is shown it is `Length(22)` at version 1.
+    /// On a new store of `examples/six.gr`, `Dist { source: 1, target: 6 }` is `Length(15)` at version 0. With `Close { arc: 7 }` accepted and flushed it
+    /// still is. Once the view of version 1 is shown it is `Length(22)` at version 1.
     pub fn ask<R: Threads>(&mut self, rt: &R, query: Query) -> Result<Answer, OutOfMemory>
         ensures step { Asks self.old.machine query (or_out_of_memory result) self.new.machine }
         ensures same { self.new ≡ self.old }

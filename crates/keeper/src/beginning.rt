@@ -15,7 +15,7 @@ use store::Store;
 impl<D: Disk> Ledger<D> {
     /// A ledger of a store that is not broken, in the beginning state of its network and version: nothing is pending.
     ///
-    /// It makes one pass over the network's arcs, and copies none. The one error is want of memory, and then the store is handed back.
+    /// It makes one pass over the network's arcs, and copies none. The only error is lack of memory; then the store is handed back.
     pub fn new(alloc: Global, store: Store<D>) -> Result<Ledger<D>, (OutOfMemory, Store<D>)>
         requires calm { is_calm store ≡ true }
         ensures begins { IfOk result (λ ledger. ledger.machine ≡ start (sizes_of store) store.network store.version store.unchecked) }
@@ -41,7 +41,7 @@ impl<D: Disk> Ledger<D> {
         })
     }
 
-    /// The groups accepted in this life, in order, and the disk, of which no call is made. It takes no memory.
+    /// The groups accepted in this life, in order, and the disk. No call of the disk is made. It takes no memory.
     pub fn close(self) -> (Vec<Group>, D)
         ensures history { result.0.items ≡ self.machine.accepted }
         ensures disk { result.1 ≡ self.disk }
@@ -53,8 +53,7 @@ impl<D: Disk> Ledger<D> {
 }
 
 impl<D: Stoppable> Ledger<D> {
-    /// Arms the disk: its k-th write or sync from now on is cut, and it and each later call fail until the disk is stopped. Nothing else
-    /// is changed.
+    /// Arms the disk: its k-th write or sync from now on is cut. That call and each later one fail until the disk is stopped. Nothing else is changed.
     pub fn arm(&mut self, k: u64)
         requires { 1 ≤ k }
         ensures machine { self.new.machine ≡ self.old.machine }

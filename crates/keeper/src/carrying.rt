@@ -5,11 +5,10 @@ ghost use Rattle.roadnet.specs.Step.{after};
 use roadnet::{Group, Network, OutOfMemory};
 use std::alloc::Global;
 
-/// Carries the groups out, one after the other, and answers how many were: all of them, but where no memory is had for one or one is not
-/// admitted. That one is not carried out, nor is any behind it.
+/// Carries the groups out, one after the other, and returns how many were carried out: all of them, unless there is no memory for one or one is not
+/// admitted. That one is not carried out, nor is any after it.
 ///
-/// In the network of `examples/six.gr` the groups of `Close { arc: 7 }` and of `Set { arc: 8, length: 4 }` are 2; those of `Close { arc: 7 }`
-/// twice are 1.
+/// In the network of `examples/six.gr`, for the groups `Close { arc: 7 }` and `Set { arc: 8, length: 4 }` it returns 2, and for `Close { arc: 7 }` twice 1.
 pub fn carry_out_in_turn(network: &mut Network, groups: &[Group]) -> usize
     ensures count { result ≤ length groups.now }
     ensures network { after network.old (take result groups.now) ≡ Some network.new }

@@ -1,4 +1,4 @@
-// How far a life has come, as a ledger tells it. None of these takes memory.
+// How far a life has come, according to its ledger. None of these calls takes memory.
 ghost use Rattle.std.specs.Prelude.{◌≡◌, ◌≤◌};
 ghost use Rattle.machine.specs.Machine.{latest, most_of_life, of_life};
 

@@ -1,4 +1,4 @@
-// What a ledger tells of itself: numbers of its machine, its groups and network, and receipts. None of these takes memory.
+// What a ledger says of itself: numbers of its machine, its groups and network, and receipts. None of these calls takes memory.
 ghost use Rattle.std.specs.Prelude.{◌≡◌, ◌≤◌, ◌++◌, Some, None};
 ghost use Rattle.machine.specs.Machine.{IsState, groups_to, network_at, pending};
 ghost use Rattle.machine.specs.Calls.{IsTicketOf, receipt_for};
@@ -11,14 +11,14 @@ use machine::{Receipt, Ticket};
 use roadnet::{Group, Network, Refusal};
 
 impl<D: Disk> Ledger<D> {
-    /// It shows the version that its store was opened at, and no task of it is out.
+    /// The ledger shows the version at which its store was opened, and no task of it is out.
     pub(crate) fn shows_nothing(&self)
         ensures { self.now.machine ≡ with_views self.now.machine self.now.machine.base_version None }
     {
         let _ = &self.store;
     }
 
-    /// Where its store came tidy, over a disk that keeps the disk model, the disk holds what is durable, whatever was called since.
+    /// If its store came tidy, on a disk that keeps the disk model, the disk holds what is durable, whatever was called since.
     pub fn holds_durable(&self)
         ensures { CameTidy D.honest D.content self.now.given → HoldsFor D.Disk self.now.disk self.now.machine }
     {
@@ -32,8 +32,8 @@ impl<D: Disk> Ledger<D> {
         self.pending
     }
 
-    /// The versions up to this one are durable. Where the ledger's store came tidy, over a disk that keeps the disk model, the disk holds
-    /// them, whatever was called since: that is a fact of the ledger, so no caller has a premise for it.
+    /// The versions up to this one are durable. If the ledger's store came tidy, on a disk that keeps the disk model, the disk holds them, whatever was
+    /// called since. That is a fact of the ledger, so no caller needs a premise for it.
     pub fn durable(&self) -> u64
         ensures version { result ≡ self.now.machine.durable }
         ensures state { IsState self.now.machine }
@@ -50,7 +50,7 @@ impl<D: Disk> Ledger<D> {
         self.store.network()
     }
 
-    /// The groups behind one version, up to another one that is durable.
+    /// The groups after one version, up to another one that is durable.
     pub(crate) fn groups_between(&self, from: u64, to: u64) -> &[Group]
         requires base { self.now.machine.base_version ≤ from }
         requires order { from ≤ to }
@@ -63,7 +63,7 @@ impl<D: Disk> Ledger<D> {
         &self.history[first..end]
     }
 
-    /// Whether a write failed: nothing is written before the store is opened again.
+    /// Whether a write failed. Then nothing is written before the store is opened again.
     pub fn broken(&self) -> bool
         ensures { result ≡ self.now.machine.broken }
     {
@@ -77,7 +77,7 @@ impl<D: Disk> Ledger<D> {
         &self.history
     }
 
-    /// How many pages of the journal no checkpoint has made needless.
+    /// How many pages of the journal are still needed because no checkpoint covers them.
     pub fn unchecked(&self) -> u32
         ensures { result ≡ self.now.machine.unchecked }
     {
@@ -91,11 +91,11 @@ impl<D: Disk> Ledger<D> {
         self.store.journal_pages()
     }
 
-    /// A receipt, where the ticket's group is durable: no stop takes it back. The ticket is one of this life.
+    /// A receipt, if the ticket's group is durable: no stop takes it back. The ticket must be one of this life.
     ///
-    /// Refused is a number that is not durable: with 45 where the store is broken, else with 54. The ticket is handed back then.
+    /// If the number is not durable, it is refused with 45 if the store is broken, otherwise with 54. Then the ticket is handed back.
     ///
-    /// Of the first ticket of a new store it is `NotYet` before a flush, and behind it the receipt of number 1 with its group.
+    /// For the first ticket of a new store it is `NotYet` before a flush, and after it the receipt of number 1 with its group.
     pub fn receipt(&self, ticket: Ticket) -> Result<Receipt, (Refusal, Ticket)>
         requires { IsTicketOf self.now.machine ticket }
         ensures { result ≡ receipt_for self.now.machine ticket }

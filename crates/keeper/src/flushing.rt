@@ -16,7 +16,7 @@ use pages::MOST_COMMANDS;
 use roadnet::{Group, Refusal};
 use std::snapshot::Snapshot;
 
-/// How many of these groups stand in front and fit a page of the journal, and how many commands they have.
+/// How many of these groups, from the first on, fit a page of the journal, and how many commands they have.
 fn front(groups: &[Group]) -> (usize, u64)
     ensures count { result.0 ≡ fitting most_of_page groups.now }
     ensures commands { result.1 ≡ count_of (take result.0 groups.now) }
@@ -35,7 +35,7 @@ fn front(groups: &[Group]) -> (usize, u64)
     (count, (MOST_COMMANDS - room) as u64)
 }
 
-/// How many commands are pending behind a write of so many of them.
+/// How many commands are pending after a write of so many of them.
 fn still_pending(written: &Result<u64, Refusal>, pending: u64, commands: u64) -> u64
     requires { commands ≤ pending }
     ensures { MatchResult written.now (λ _. result ≡ pending - commands) (λ _. result ≡ pending) }
@@ -47,7 +47,7 @@ fn still_pending(written: &Result<u64, Refusal>, pending: u64, commands: u64) ->
 }
 
 impl<D: Disk> Ledger<D> {
-    /// For what a flush would be refused, memory and the disk apart.
+    /// Why a flush would be refused, apart from memory and the disk.
     fn may_flush(&self) -> Result<(), Refusal>
         ensures { IsRefusedFor (refusal_of_flush self.now.machine) result }
     {
@@ -63,24 +63,23 @@ impl<D: Disk> Ledger<D> {
         Ok(())
     }
 
-    /// Makes the first pending groups durable, the longest front of them with at most 253 commands, as one page of the journal: all of them or
-    /// none, whatever a stop does at any moment. Answers the durable version.
+    /// Makes the first pending groups durable as one page of the journal: as many groups as have at most 253 commands together, all of them or none,
+    /// whenever a stop comes. Returns the durable version.
     ///
-    /// Refused, the first that holds, is a broken store (45), that nothing is pending (53), and a journal without a free page (44); then want of
-    /// memory (11), before any call of the disk; then a disk that failed (43), after which the store is broken. After each other refusal
-    /// nothing is changed.
+    /// It is refused, in this order, if the store is broken (45), if nothing is pending (53), if the journal has no free page (44), or for lack of memory
+    /// (11), all before any call of the disk; then if the disk fails (43), after which the store is broken. After any other refusal nothing has changed.
     ///
-    /// On a new store, with one group accepted it answers 1, and a second call is `NothingPending`; with 254 of one command it answers 253, and then
-    /// 254; with one of two commands and one of 252 it answers 1, and then 2.
+    /// On a new store with one accepted group it returns 1, and a second call is `NothingPending`. With 254 groups of one command it returns 253, and then
+    /// 254. With one group of two commands and one of 252 it returns 1, and then 2.
     pub fn flush(&mut self) -> Result<u64, Refusal>
         ensures step { Flushes self.old.machine result self.new.machine }
         ensures same { IfErr result (λ refusal. refusal ≢ device → self.new ≡ self.old) }
-        // The count of failures rises by one where 43 is told, and else not at all: none is passed over.
+        // The count of failures rises by one if 43 is reported, and otherwise not at all: no failure goes unreported.
         ensures counted { D.failures self.new.disk ≡ failures_told result (D.failures self.old.disk) }
         ensures failed { IfErr result (λ refusal. refusal ≡ device → Rose (D.failures self.old.disk) (D.failures self.new.disk)) }
         ensures given { self.new.given ≡ self.old.given }
         ensures adds_nothing { self.old.machine.broken ≡ true → AddsNothing D.moment D.left_since self.old.disk self.new.disk }
-        // A stop at any moment of the call leaves what a flush that failed leaves.
+        // A stop during the call leaves what a failed flush may leave.
         ensures any_moment { LeavesAtAnyMoment D.Disk (IsLeftByFlush self.old.machine) self.old.machine self.old.given self.old.disk self.new.disk }
         ensures honest { D.honest self.new.disk ↔ D.honest self.old.disk }
     {

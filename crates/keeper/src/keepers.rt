@@ -7,11 +7,11 @@ use std::marker::Model;
 use std::ops::Deref;
 use std::sync::Arc;
 
-/// The keeper of a store: the ledger of the commands accepted since it was opened, and the view that answers are given from. It is plain
-/// data: whoever has it alone may call it. It lends its ledger, so what a ledger tells of itself it tells too.
+/// The keeper of a store: the ledger of the commands accepted since it was opened, and the view from which answers are given. It is plain data: whoever
+/// owns it may call it. It lends its ledger, so it offers the ledger's calls too.
 ///
 /// It takes what its ledger takes, 4 or 8 bytes a node for each of up to 16 rows, and 14 to 27 bytes a node that one search leaves to the next. It has no
-/// network of its own: that of a task with a network is shared with who took it, until the task is out no more.
+/// network of its own: that of a task with a network is shared with whoever took it, until the task is no longer out.
 #[derive(Drop)]
 pub struct Keeper<D: Disk> {
     pub(crate) alloc: Global,
@@ -19,7 +19,7 @@ pub struct Keeper<D: Disk> {
     pub(crate) shown: Sight,
     /// The version of the task that is out.
     pub(crate) task: Option<u64>,
-    /// The network that this task was handed out with, if it was with one.
+    /// The network with which this task was handed out, if there was one.
     pub(crate) shared: Option<Arc<Network>>,
 }
 

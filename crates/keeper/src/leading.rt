@@ -1,4 +1,4 @@
-// Whether groups lead from one network to another, told without memory.
+// Whether groups lead from one network to another, decided without memory.
 ghost use Rattle.std.specs.Prelude.{◌≡◌, ◌≤◌, ◌<◌, ◌+◌, None, Some, option_map};
 ghost use Rattle.std.specs.Bool.{Decides};
 ghost use Rattle.roadnet.specs.Net.{Net, IsNetwork, longest_arc, most_nodes};
@@ -8,7 +8,7 @@ ghost use Rattle.keeper.specs.Leading.{Sees};
 
 use roadnet::{Command, Group, Network, RoadArc};
 
-/// What is seen of a network at one number: its arc, if there is one, whether its node is a landmark, and how many arcs there are.
+/// What a network shows at one number: its arc, if there is one, whether its node is a landmark, and how many arcs there are.
 #[derive(Clone, Copy, Debug, PartialEq, Eq)]
 struct Seen {
     arc: Option<RoadArc>,
@@ -16,7 +16,7 @@ struct Seen {
     arcs: u64,
 }
 
-/// One more, where that is a number of 64 bits.
+/// One more, if that is a number of 64 bits.
 fn one_more(n: u64) -> u64
     ensures { n < 18446744073709551615 → result ≡ n + 1 }
 {
@@ -32,7 +32,7 @@ fn with_length(arc: Option<RoadArc>, length: u64) -> Option<RoadArc>
     Some(arc)
 }
 
-/// An arc that walks may take, or that they may not.
+/// An arc that walks may use, or one that they may not.
 fn with_flag(arc: Option<RoadArc>, opened: bool) -> Option<RoadArc>
     ensures { result ≡ option_map (λ (arc : RoadArc). record arc { opened = opened }) arc }
 {
@@ -53,7 +53,7 @@ fn laid(tail: u64, head: u64, length: u64) -> RoadArc
     }
 }
 
-/// What is seen at number `k` after an admitted command.
+/// What number `k` shows after an admitted command.
 fn seen_after_one(command: &Command, k: u64, seen: Seen) -> Seen
     ensures { (net : Net) → IsNetwork net → refusal_of net command.now ≡ None → Sees net k seen → Sees (changed net command.now) k result }
 {
@@ -105,7 +105,7 @@ fn seen_after_one(command: &Command, k: u64, seen: Seen) -> Seen
     }
 }
 
-/// What is seen at number `k` after commands that are admitted, each in its turn.
+/// What number `k` shows after commands that are each admitted in turn.
 fn seen_after(commands: &[Command], k: u64, seen: Seen) -> Seen
     ensures { (net : Net) → IsNetwork net → first_refusal net commands.now ≡ None → Sees net k seen → Sees (changed_by net commands.now) k result }
 {
@@ -116,7 +116,7 @@ fn seen_after(commands: &[Command], k: u64, seen: Seen) -> Seen
     last
 }
 
-/// What is seen at number `k` after groups of which each command is admitted in its turn.
+/// What number `k` shows after groups whose commands are each admitted in turn.
 fn seen_after_all(groups: &[Group], k: u64, seen: Seen) -> Seen
     ensures { (net : Net) → IsNetwork net → first_refusal_of_all net groups.now ≡ None → Sees net k seen → Sees (changed_by_all net groups.now) k result }
 {
@@ -127,7 +127,7 @@ fn seen_after_all(groups: &[Group], k: u64, seen: Seen) -> Seen
     last
 }
 
-/// What is seen of a network at number `k`.
+/// What number `k` of a network shows.
 fn see(network: &Network, k: u64) -> Seen
     ensures { Sees network.now k result }
 {
@@ -138,14 +138,14 @@ fn see(network: &Network, k: u64) -> Seen
     }
 }
 
-/// Whether the same is seen.
+/// Whether both show the same.
 fn is_same(one: Seen, other: Seen) -> bool
     ensures { Decides result (one ≡ other) }
 {
     one == other
 }
 
-/// Whether groups that a network admits lead to another. It takes no memory, and looks at each command once for each arc and node.
+/// Whether groups that a network admits lead to another network. It takes no memory, and looks at each command once for each arc and node.
 pub(crate) fn lead_to(network: &Network, groups: &[Group], other: &Network) -> bool
     requires { first_refusal_of_all network.now groups.now ≡ None }
     ensures { Decides result (after network.now groups.now ≡ Some other.now) }

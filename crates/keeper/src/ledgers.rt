@@ -8,11 +8,10 @@ use std::marker::Model;
 use std::snapshot::Snapshot;
 use store::Store;
 
-/// The ledger of a store: the groups of commands accepted since it was opened, of which the first are durable. It computes no row and shows
-/// nothing.
+/// The ledger of a store: the groups of commands accepted since it was opened, of which the first are durable. It computes no row and shows nothing.
 ///
-/// Beyond the store with its network it takes 1 byte an arc and 4 a landmark, for the outline of the network that commands are judged
-/// by, 40 bytes a group of this life, and 32 a command of a group of two or more.
+/// Beyond the store with its network it takes 1 byte an arc and 4 a landmark, for the outline of the network by which commands are judged; 40 bytes a group
+/// of this life; and 32 a command in a group of two or more.
 #[derive(Drop)]
 pub struct Ledger<D: Disk> {
     pub(crate) store: Store<D>,
@@ -22,12 +21,12 @@ pub struct Ledger<D: Disk> {
     /// The groups accepted since, in order, and the outline of the network after them.
     pub(crate) history: Vec<Group>,
     pub(crate) accepted: Outline,
-    /// How many commands these groups have, and how many those have that are not durable.
+    /// How many commands these groups have, and how many of these are not durable.
     pub(crate) of_life: u64,
     pub(crate) pending: u64,
-    /// A write failed: the store takes no more of them before it is opened again.
+    /// A write failed: the store takes no more writes before it is opened again.
     pub(crate) broken: bool,
-    /// How many groups the last write had: where it failed, they are in flight.
+    /// How many groups the last write had. If it failed, they are in flight.
     pub(crate) written: Snapshot<usize>,
 }
 
@@ -57,7 +56,7 @@ impl<D: Disk> Model for Ledger<D> {
         × (k.pending ≡ pending_in m) };
 }
 
-/// Whether the disk failed in a write that told this.
+/// Whether the disk failed in a write with this result.
 pub(crate) fn has_failed<T>(written: &Result<T, Refusal>) -> bool
     ensures { Decides result (written.now ≡ Err device) }
 {

@@ -1,5 +1,5 @@
-//! The keeper of a store: one object that takes groups of commands, makes them durable, writes checkpoints, hands out tasks, shows views and
-//! answers queries. Each of its calls is a step of the machine of the crate `machine`.
+//! The keeper of a store: one object that accepts groups of commands, makes them durable, writes checkpoints, hands out tasks, shows views and answers
+//! queries. Each of its calls is a step of the machine of the crate `machine`.
 #![tactic(auto)]
 
 mod asking;

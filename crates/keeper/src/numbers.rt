@@ -1,4 +1,4 @@
-// What a keeper tells of itself beyond what its ledger does. None of these takes memory.
+// What a keeper says of itself beyond what its ledger does. None of these calls takes memory.
 ghost use Rattle.std.specs.Prelude.{◌≡◌, Some};
 ghost use Rattle.machine.specs.Machine.{network_at};
 ghost use Rattle.store.specs.State.{CameTidy};
@@ -10,8 +10,8 @@ use rows::View;
 use std::sync::Arc;
 
 impl<D: Disk> Keeper<D> {
-    /// The versions up to this one are durable. Where the keeper's store came tidy, over a disk that keeps the disk model, the disk holds
-    /// them, whatever was called since: that is a fact of the keeper, so who shares one under a lock needs no premise.
+    /// The versions up to this one are durable. If the keeper's store came tidy, on a disk that keeps the disk model, the disk holds them, whatever was
+    /// called since. That is a fact of the keeper, so whoever shares one under a lock needs no premise.
     pub fn durable(&self) -> u64
         ensures version { result ≡ self.now.machine.durable }
         ensures honest { CameTidy D.honest D.content self.now.given → D.honest self.now.disk }
@@ -20,14 +20,14 @@ impl<D: Disk> Keeper<D> {
         self.ledger.durable()
     }
 
-    /// The version that answers are given from.
+    /// The version from which answers are given.
     pub fn shown(&self) -> u64
         ensures { result ≡ self.now.machine.shown }
     {
         self.shown.version()
     }
 
-    /// The view that answers are given from: it is of the shown version and of the network at it.
+    /// The view from which answers are given: of the shown version and of the network at it.
     pub fn view(&self) -> &Arc<View>
         ensures version { result.now.value.version ≡ self.now.machine.shown }
         ensures network { network_at self.now.machine self.now.machine.shown ≡ Some result.now.value.network }

@@ -1,5 +1,4 @@
-// What the holder of a desk's history asks of its keeper: groups that are accepted as they are written there, and the version that
-// numbers go on from.
+// What the holder of a desk's history asks of its keeper: to accept groups as they are written there, and the version from which numbers go on.
 ghost use Rattle.std.specs.Prelude.{◌≡◌, ◌≢◌, ◌<◌, ◌^◌, ◌++◌, ◌∷◌, [], None, Ok, Err, length, IfOk, IfErr, OnOk, OnErr};
 ghost use Rattle.roadnet.specs.declared.refusals.Refusal.TheVariants.{OutOfMemory as out_of_memory, Closed as closed};
 ghost use Rattle.roadnet.specs.Outlines.{IsOutline, EachAdmitsGroup};
@@ -14,8 +13,8 @@ use history::History;
 use machine::Ticket;
 use roadnet::{Group, Outline, Refusal};
 
-/// Writes an admitted group into the desk's history, puts it behind those that were accepted, and carries it out. After an `Err` nothing
-/// has changed: it is carried out before it is written, and taken back where the history has no room.
+/// Writes an admitted group into the desk's history, appends it to the accepted ones, and carries it out. After an `Err` nothing has changed: it is carried
+/// out before it is written, and undone if the history has no room.
 fn accept_into(
     log: &mut History,
     history: &mut Vec<Group>,
@@ -41,7 +40,7 @@ fn accept_into(
 }
 
 impl<D: Disk> Ledger<D> {
-    /// The version that the ledger's store was opened at: its first group leads from there to the next.
+    /// The version at which the ledger's store was opened: its first group leads from there to the next.
     pub fn opened(&self) -> u64
         ensures version { result ≡ self.now.machine.base_version }
         ensures state { IsState self.now.machine }
@@ -49,15 +48,15 @@ impl<D: Disk> Ledger<D> {
         self.opened
     }
 
-    /// Accepts the group as `submit_group` does, once it is written into the desk's history: both get it, or neither.
+    /// Accepts the group as `submit_group` does, and writes it into the desk's history: both get it, or neither.
     ///
-    /// Refused as `submit_group` is; and, after these, where the history has room for no group (61).
+    /// It is refused as `submit_group` is; and after that with 61, if the history has no room for the group.
     pub fn submit_into(&mut self, log: &mut History, group: Group) -> Result<Ticket, Refusal>
         ensures accepted { IfOk result (λ ticket. Submits self.old.machine group (Ok ticket) self.new.machine) }
         ensures refused { IfErr result (λ refusal. refusal ≢ closed → Submits self.old.machine group (Err refusal) self.new.machine) }
-        // 61 comes only where nothing else refuses the group.
+        // 61 comes only if nothing else refuses the group.
         ensures order { IfErr result (λ refusal. refusal ≡ closed → refusal_of_submit self.old.machine group ≡ None) }
-        // It doesn't come of a history with room, as each desk's has.
+        // It does not come if the history has room, as each desk's history does.
         ensures room { length log.old.groups < 2 ^ 62 → IfErr result (λ refusal. Submits self.old.machine group (Err refusal) self.new.machine) }
         ensures same { OnErr result (self.new ≡ self.old) }
         ensures written { OnOk result (log.new ≡ record log.old { groups = log.old.groups ++ group ∷ [] }) }
@@ -81,7 +80,7 @@ impl<D: Disk> Ledger<D> {
 }
 
 impl<D: Disk> Keeper<D> {
-    /// The version that the keeper's store was opened at: its first group leads from there to the next.
+    /// The version at which the keeper's store was opened: its first group leads from there to the next.
     pub fn opened(&self) -> u64
         ensures version { result ≡ self.now.machine.base_version }
         ensures state { IsState self.now.machine }
@@ -89,15 +88,15 @@ impl<D: Disk> Keeper<D> {
         self.ledger.opened()
     }
 
-    /// Accepts the group as `submit_group` does, once it is written into the desk's history: both get it, or neither.
+    /// Accepts the group as `submit_group` does, and writes it into the desk's history: both get it, or neither.
     ///
-    /// Refused as `submit_group` is; and, after these, where the history has room for no group (61).
+    /// It is refused as `submit_group` is; and after that with 61, if the history has no room for the group.
     pub fn submit_into(&mut self, log: &mut History, group: Group) -> Result<Ticket, Refusal>
         ensures accepted { IfOk result (λ ticket. Submits self.old.machine group (Ok ticket) self.new.machine) }
         ensures refused { IfErr result (λ refusal. refusal ≢ closed → Submits self.old.machine group (Err refusal) self.new.machine) }
-        // 61 comes only where nothing else refuses the group.
+        // 61 comes only if nothing else refuses the group.
         ensures order { IfErr result (λ refusal. refusal ≡ closed → refusal_of_submit self.old.machine group ≡ None) }
-        // It doesn't come of a history with room, as each desk's has.
+        // It does not come if the history has room, as each desk's history does.
         ensures room { length log.old.groups < 2 ^ 62 → IfErr result (λ refusal. Submits self.old.machine group (Err refusal) self.new.machine) }
         ensures same { OnErr result (self.new ≡ self.old) }
         ensures written { OnOk result (log.new ≡ record log.old { groups = log.old.groups ++ group ∷ [] }) }

@@ -46,11 +46,10 @@ pub fn view_of<R: Threads>(
 }
 
 impl<D: Disk> Keeper<D> {
-    /// A keeper of a store that is not broken, in the beginning state of its network and version: nothing is pending, and the view of that
-    /// version is built and shown. `delta`, 1 to 2147483647, is the width of the buckets of its searches; where none is given it is the
-    /// network's default.
+    /// A keeper of a store that is not broken, in the beginning state of its network and version: nothing is pending, and the view of that version is built
+    /// and shown. `delta`, 1 to 2147483647, is the width of the buckets of its searches. If none is given, it is the network's default.
     ///
-    /// The landmarks' rows are made one after the other. The one error is want of memory, and then the store is handed back.
+    /// The landmarks' rows are made one after the other. The only error is lack of memory; then the store is handed back.
     pub fn new<R: Threads>(
         rt: &R,
         alloc: Global,
@@ -71,9 +70,9 @@ impl<D: Disk> Keeper<D> {
         }
     }
 
-    /// The same, with this view of the store's network and version as the one that is shown. The width of the keeper's searches is the view's.
+    /// The same, with a given view of the store's network and version as the shown one. The width of the keeper's searches is the view's.
     ///
-    /// The one error is want of memory, and then the store is handed back.
+    /// The only error is lack of memory; then the store is handed back.
     pub fn showing(
         alloc: Global,
         store: Store<D>,
@@ -98,7 +97,7 @@ impl<D: Disk> Keeper<D> {
         })
     }
 
-    /// The groups accepted in this life, in order, and the disk, of which no call is made. It takes no memory.
+    /// The groups accepted in this life, in order, and the disk. No call of the disk is made. It takes no memory.
     pub fn close(self) -> (Vec<Group>, D)
         ensures history { result.0.items ≡ self.machine.accepted }
         ensures disk { result.1 ≡ self.disk }
@@ -110,8 +109,7 @@ impl<D: Disk> Keeper<D> {
 }
 
 impl<D: Stoppable> Keeper<D> {
-    /// Arms the disk: its k-th write or sync from now on is cut, and it and each later call fail until the disk is stopped. Nothing else
-    /// is changed.
+    /// Arms the disk: its k-th write or sync from now on is cut. That call and each later one fail until the disk is stopped. Nothing else is changed.
     pub fn arm(&mut self, k: u64)
         requires { 1 ≤ k }
         ensures machine { self.new.machine ≡ self.old.machine }

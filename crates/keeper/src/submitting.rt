@@ -11,7 +11,7 @@ use machine::{MOST_OF_LIFE, MOST_PENDING, Ticket};
 use pages::MOST_VERSIONS;
 use roadnet::{Group, OutOfMemory, Outline, Refusal};
 
-/// Puts an admitted group behind those that were accepted, and carries it out. After an `Err` nothing has changed.
+/// Appends an admitted group to the accepted ones, and carries it out. After an `Err` nothing has changed.
 fn accept(history: &mut Vec<Group>, accepted: &mut Outline, group: Group) -> Result<(), OutOfMemory>
     requires { EachAdmitsGroup accepted.old group }
     ensures { Accepts group result history.old.items history.new.items accepted.old accepted.new }
@@ -23,7 +23,7 @@ fn accept(history: &mut Vec<Group>, accepted: &mut Outline, group: Group) -> Res
 }
 
 impl<D: Disk> Ledger<D> {
-    /// For what the group would be refused, memory apart.
+    /// Why the group would be refused, apart from memory.
     pub(crate) fn may_submit(&self, group: &Group) -> Result<(), Refusal>
         ensures { IsRefusedFor (refusal_of_submit self.now.machine group.now) result }
     {
@@ -43,16 +43,16 @@ impl<D: Disk> Ledger<D> {
         self.accepted.admit_group(group)
     }
 
-    /// Accepts the group as the next number. It is pending then, and a stop may take it back until a flush has made it durable.
+    /// Accepts the group with the next number. It is then pending, and a stop may take it back until a flush has made it durable.
     ///
-    /// Refused, the first that holds, is a broken store (45), a life that would pass 16,777,216 commands (62), a version that would pass 2^48
-    /// (28), more than 4,096 pending commands (50), and the first command that the network after the accepted groups and the commands before
-    /// it doesn't admit (20 to 27, 29); then want of memory (11).
+    /// It is refused, in this order, if the store is broken (45), if the life would exceed 16,777,216 commands (62), if the version would exceed 2^48 (28),
+    /// if more than 4,096 commands would be pending (50), or with the refusal of its first command that is not admitted after the accepted groups and the
+    /// commands before it (20 to 27, 29); then for lack of memory (11).
     ///
-    /// The outline of the accepted network is changed in place: beyond the group itself, and a copy of one of two or more commands, this
-    /// takes a copy of the landmarks where the group names one, and what arcs that are laid need.
+    /// The outline of the accepted network is changed in place. Beside the group itself, and a copy of a group of two or more commands, this takes memory
+    /// for a copy of the landmarks if the group names one, and for new arcs.
     ///
-    /// On a new store of `examples/six.gr`, the group of `Close { arc: 7 }` is accepted as number 1; the same once more is `AlreadyClosed`, though
+    /// On a new store of `examples/six.gr`, the group of `Close { arc: 7 }` is accepted with number 1. The same group once more is `AlreadyClosed`, though
     /// nothing is durable yet.
     pub fn submit_group(&mut self, group: Group) -> Result<Ticket, Refusal>
         ensures step { Submits self.old.machine group result self.new.machine }
@@ -65,7 +65,7 @@ impl<D: Disk> Ledger<D> {
         }
     }
 
-    /// Accepts a copy of the group, as `submit_group` does, and answers its number. The copy is made once the group is admitted.
+    /// Accepts a copy of the group, as `submit_group` does, and returns its number. The copy is made once the group is admitted.
     pub fn submit_copy(&mut self, group: &Group) -> Result<u64, Refusal>
         ensures step { Submits self.old.machine group.now (ticket_for group.now result) self.new.machine }
         ensures disk { self.new.disk ≡ self.old.disk }

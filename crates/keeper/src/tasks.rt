@@ -1,4 +1,4 @@
-// Views that are wanted: tasks handed out and given up, and the views of them shown.
+// Views that are wanted: tasks handed out and given up, and their views shown.
 ghost use Rattle.std.specs.Prelude.{◌≡◌, None, Some, Ok, IfSome, IfOk, IfErr, OnOk, OnErr, MatchResult, option_map};
 ghost use Rattle.std.specs.Bool.{Decides};
 ghost use Rattle.std.proofs.Props.{props};
@@ -26,12 +26,12 @@ pub struct Task {
     pub network: Arc<Network>,
 }
 
-/// A version whose view is wanted, by the groups that lead to it from a view. Contracts see its network; when it runs there is none.
+/// A version whose view is wanted, given by the groups that lead to it from a view. Contracts see its network; at run time there is none.
 #[derive(Drop)]
 pub struct GroupTask {
     /// The version.
     pub version: u64,
-    /// The view that is shown as the task is taken.
+    /// The view that was shown when the task was taken.
     pub view: Arc<View>,
     /// The groups from its version to the task's.
     pub groups: Vec<Group>,
@@ -41,13 +41,13 @@ pub struct GroupTask {
 }
 
 impl<D: Disk> Keeper<D> {
-    /// A task: the durable version with a copy of its network, of which the keeper keeps a share. It is out then, until a view of it is shown or it is
-    /// given up. There is none while a task is out, and where the durable version is shown.
+    /// A task: the durable version with a copy of its network, of which the keeper keeps a share. It is then out, until a view of it is shown or it is
+    /// given up. There is no task while one is out, or if the durable version is shown.
     ///
-    /// The one error is want of memory, and then nothing has changed. The network is copied once.
+    /// The only error is lack of memory; then nothing has changed. The network is copied once.
     ///
-    /// Of a new keeper there is none, since its version is shown. Behind a flush of `Close { arc: 7 }` there is the task of version 1, in whose network
-    /// arc 7 is closed; a second call, while it is out, gives none.
+    /// For a new keeper there is none, since its version is shown. After a flush of `Close { arc: 7 }` there is the task of version 1, in whose network arc
+    /// 7 is closed. A second call, while it is out, gives none.
     pub fn take_task(&mut self) -> Result<Option<Task>, OutOfMemory>
         ensures step { TakesTask self.old.machine (or_out_of_memory (result_map (option_map (λ t. (t.version, t.network.value))) result)) self.new.machine }
         ensures disk { self.new.disk ≡ self.old.disk }
@@ -69,13 +69,12 @@ impl<D: Disk> Keeper<D> {
         Ok(Some(Task { version, network }))
     }
 
-    /// A task, as `take_task` takes it, by the groups that lead to its network from that of the view that is shown. No network is copied, and
-    /// nothing goes over its arcs: it takes a copy of each group from the shown version to the durable one.
+    /// A task, as `take_task` takes it, given by the groups that lead to its network from that of the shown view. No network is copied, and there is no
+    /// pass over its arcs: it takes a copy of each group from the shown version to the durable one.
     ///
-    /// The one error is want of memory, and then nothing has changed.
+    /// The only error is lack of memory; then nothing has changed.
     ///
-    /// Behind flushes of `Close { arc: 7 }` and of `Set { arc: 8, length: 4 }` it is the task of version 2 with these two groups, where version 0 is
-    /// shown.
+    /// After flushes of `Close { arc: 7 }` and of `Set { arc: 8, length: 4 }`, while version 0 is shown, it is the task of version 2 with these two groups.
     pub fn take_groups(&mut self) -> Result<Option<GroupTask>, OutOfMemory>
         ensures step { TakesTask self.old.machine (or_out_of_memory (result_map (option_map (λ t. (t.version, t.network.value))) result)) self.new.machine }
         ensures shown { IfOk result (λ task. IfSome task (λ t. t.view.value.version ≡ self.old.machine.shown)) }
@@ -112,7 +111,7 @@ impl<D: Disk> Keeper<D> {
         self.task
     }
 
-    /// The task of this version, if it is out, is out no more. It takes no memory.
+    /// Ends the task of this version, if it is out. It takes no memory.
     pub fn give_up(&mut self, version: u64)
         ensures step { self.new.machine ≡ without_task self.old.machine version }
         ensures disk { self.new.disk ≡ self.old.disk }
@@ -127,8 +126,8 @@ impl<D: Disk> Keeper<D> {
         }
     }
 
-    /// Whether this is the network of the task of this version, which is out: compared with the one that the task was handed out with, else by the groups from
-    /// the shown version to the task's.
+    /// Whether this is the network of the task of this version, which is out. It is compared with the network with which the task was handed out; otherwise
+    /// the groups from the shown version to the task's decide.
     fn is_of_task(&self, version: u64, network: &Network) -> bool
         requires { self.now.machine.task ≡ Some version }
         ensures { Decides result (network_at self.now.machine version ≡ Some network.now) }
@@ -141,8 +140,8 @@ impl<D: Disk> Keeper<D> {
         lead_to(shown.network(), groups, network)
     }
 
-    /// For what `publish` of the view would be refused: 51 where no task is out, 52 where the view's version or network is not the task's,
-    /// compared arc by arc. It takes no memory.
+    /// Why `publish` of the view would be refused: 51 if no task is out, 52 if the view's version or network is not the task's, compared arc by arc. It
+    /// takes no memory.
     pub fn may_publish(&self, view: &View) -> Result<(), Refusal>
         ensures { MatchResult result (λ _. IsTask self.now.machine view.now.version view.now.network)
             (RefusesView self.now.machine view.now.version view.now.network) }
@@ -156,12 +155,12 @@ impl<D: Disk> Keeper<D> {
         Ok(())
     }
 
-    /// Shows the view of the task that is out: answers are given from it, and no task is out then. Answers the version that is shown.
+    /// Shows the view of the task that is out: answers are then given from it, and no task is out. Returns the shown version.
     ///
-    /// Refused, as `may_publish` tells, the view is handed back and nothing has changed. It takes no memory.
+    /// If it is refused, as `may_publish` says, the view is handed back and nothing has changed. It takes no memory.
     ///
-    /// With the task of version 1 out, the view of its network at version 1 is shown, and it answers 1; the view of version 0 is `OtherNetwork`.
-    /// With no task out each view is `NoTask`.
+    /// With the task of version 1 out, the view of its network at version 1 is shown, and it returns 1. The view of version 0 is `OtherNetwork`. With no
+    /// task out, each view is `NoTask`.
     pub fn publish(&mut self, view: Arc<View>) -> Result<u64, (Refusal, Arc<View>)>
         ensures step { Publishes self.old.machine view.value.version view.value.network (refusal_alone result) self.new.machine }
         ensures handed_back { IfErr result (λ refused. refused.1 ≡ view) }
@@ -176,8 +175,8 @@ impl<D: Disk> Keeper<D> {
         Ok(self.publish_admitted(view))
     }
 
-    /// Shows the view of the task, as `publish` does, where that is known without a look at its arcs: `may_publish` has admitted it, or what
-    /// built it tells. It takes no memory and can't fail.
+    /// Shows the view of the task, as `publish` does, if it is known to be right without a look at its arcs: `may_publish` has admitted it, or whoever
+    /// built it says so. It takes no memory and cannot fail.
     pub fn publish_admitted(&mut self, view: Arc<View>) -> u64
         requires { IsTask self.old.machine view.value.version view.value.network }
         ensures step { Publishes self.old.machine view.value.version view.value.network (Ok result) self.new.machine }

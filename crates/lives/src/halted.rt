@@ -17,7 +17,7 @@ pub(crate) struct Halted<D: Stoppable> {
     pub(crate) opened: u64,
     pub(crate) durable: u64,
     pub(crate) disk: D,
-    /// The width that was given, for the lives that follow.
+    /// The width that was given, for the following lives.
     pub(crate) delta: Option<u32>,
     ghost width: { ForSome delta IsWidth },
 }

@@ -1,4 +1,4 @@
-// A life of a keeper in a rehearsal, with what holds of it between two events.
+// A life of a keeper in a rehearsal, and what holds of it between two events.
 ghost use Rattle.std.specs.Prelude.{◌≡◌, Some, option_map, ℕ};
 ghost use Rattle.std.specs.Option.{ForSome};
 ghost use Rattle.std.proofs.Props.{props};
@@ -10,7 +10,7 @@ use keeper::Keeper;
 use rows::View;
 use std::sync::Arc;
 
-/// A keeper from an opening of its store to the next stop, and the view that is kept aside.
+/// A keeper from an opening of its store to the next stop, and the view that is set aside.
 #[derive(Drop)]
 pub(crate) struct Life<D: Stoppable> {
     pub(crate) keeper: Keeper<D>,
@@ -18,7 +18,7 @@ pub(crate) struct Life<D: Stoppable> {
     pub(crate) opened: u64,
     /// The view of the task that is out.
     pub(crate) aside: Option<Arc<View>>,
-    /// The width of the buckets that was given, if one was: it is that of each view.
+    /// The width of the buckets that was given, if one was. Each view has it.
     pub(crate) delta: Option<u32>,
     ghost living: { IsLife keeper.machine opened (option_map (λ view. (view.value.version, view.value.network)) aside) } by { Prim.hlevel props },
     ghost width: { ForSome delta IsWidth },

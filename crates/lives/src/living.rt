@@ -43,7 +43,7 @@ fn told_part(stepped: &Result<Part, Refusal>) -> Replied
 }
 
 impl<D: Stoppable> Life<D> {
-    /// The life that an opened store begins.
+    /// The life that begins with an opened store.
     pub(crate) fn begin<R: Threads>(
         rt: &R,
         alloc: Global,
@@ -103,7 +103,7 @@ impl<D: Stoppable> Life<D> {
         told_part(&self.keeper.checkpoint_step(pages.number()))
     }
 
-    /// A task is taken, and its view is built and kept aside. A task whose view finds no memory is given up.
+    /// A task is taken, and its view is built and set aside. If there is no memory for the view, the task is given up.
     pub(crate) fn task<R: Threads>(&mut self, rt: &R, alloc: Global) -> Replied
         ensures { Replies TaskEvent result self.old self.new }
     {
@@ -135,7 +135,7 @@ impl<D: Stoppable> Life<D> {
         }
     }
 
-    /// The view that is kept aside is shown.
+    /// The view that was set aside is shown.
     pub(crate) fn publish(&mut self) -> Replied
         ensures { Replies Publish result self.old self.new }
     {
@@ -150,7 +150,7 @@ impl<D: Stoppable> Life<D> {
         }
     }
 
-    /// A query is answered from the view that is shown.
+    /// A query is answered from the shown view.
     pub(crate) fn ask<R: Threads>(&mut self, rt: &R, query: Query) -> Replied
         ensures { Replies (Ask query) result self.old self.new }
     {
@@ -173,7 +173,7 @@ impl<D: Stoppable> Life<D> {
         }
     }
 
-    /// The reply to an event that is no stop.
+    /// The reply to an event that is not a stop.
     pub(crate) fn reply<R: Threads>(
         &mut self,
         rt: &R,

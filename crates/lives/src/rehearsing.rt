@@ -26,23 +26,23 @@ use std::alloc::Global;
 use std::thread::Threads;
 use store::{Store, open};
 
-/// How many replies an event has at most.
+/// The most replies to an event.
 const MOST_REPLIES: usize = 2;
 
-/// What a run of a script's events came to.
+/// The result of a run of a script's events.
 #[derive(Drop)]
 pub struct Rehearsal<D: Disk> {
-    /// The groups that were accepted and that no stop took back, in order: they follow the version of the store that was handed in. Where
-    /// the run ended with a stop, those that were durable.
+    /// The groups that were accepted and that no stop took back, in order. They follow the version of the store that was handed in. If the run ended with a
+    /// stop, they are those that were durable.
     pub history: Vec<Group>,
     /// The replies to the events that were run, in order.
     pub replies: Vec<Replied>,
-    /// Why the run ended before its last event was run: the store was not opened, or its first view not built (43 or 11), or no memory was
-    /// given (11). Nothing where every event was run.
+    /// Why the run ended before its last event was run: the store was not opened, or its first view not built (43 or 11), or there was no memory (11).
+    /// Nothing if every event was run.
     pub ended: Option<Refusal>,
     /// The disk, as the run left it.
     pub disk: D,
-    // The width of the buckets that each view was built with, where one was given.
+    // The width of the buckets that each view was built with, if one was given.
     delta: Option<u32>,
 }
 
@@ -60,17 +60,17 @@ impl<D: Disk> Ran for Rehearsal<D> {
     }
 }
 
-/// A run that goes on.
+/// A run in progress.
 #[derive(Drop)]
 struct Run<D: Stoppable> {
-    /// The groups that earlier lives accepted and stops left. There is room for those of this life too.
+    /// The groups that earlier lives accepted and no stop took back. There is room for those of this life too.
     history: Vec<Group>,
     /// The replies so far.
     replies: Vec<Replied>,
     life: Life<D>,
 }
 
-/// Puts groups behind a history that has room for them.
+/// Appends groups to a history that has room for them.
 fn put_behind(history: &mut Vec<Group>, groups: Vec<Group>)
     requires { vec_len history.old + vec_len groups ≤ vec_capacity history.old }
     ensures { history.new.items ≡ history.old.items ++ groups.items }
@@ -79,7 +79,7 @@ fn put_behind(history: &mut Vec<Group>, groups: Vec<Group>)
     let _ = history.append(&mut groups);
 }
 
-/// Stops the disk with these picks, or where there is none with the old bytes. Answers whether an armed call came.
+/// Stops the disk with these picks, or with the old bytes if there are none. Returns whether an armed call came.
 fn stop_disk<D: Stoppable>(disk: &mut D, picks: &[Pick]) -> bool
     ensures left { D.honest disk.old → D.left disk.old (D.content disk.new) }
     ensures only { D.honest disk.old → Only (D.content disk.new) (D.left disk.new) }
@@ -95,7 +95,7 @@ fn stop_disk<D: Stoppable>(disk: &mut D, picks: &[Pick]) -> bool
     }
 }
 
-/// Tells the reply to an event that writes, unless the stop came within it.
+/// Adds the reply to an event that writes, unless the stop came within it.
 fn tell_write(replies: &mut Vec<Replied>, came: bool, written: Replied)
     requires { vec_len replies.old < vec_capacity replies.old }
     ensures told { IsToldOrFailed replies.old.items written replies.new.items }
@@ -112,8 +112,8 @@ fn tell_write(replies: &mut Vec<Replied>, came: bool, written: Replied)
     }
 }
 
-/// Opens the store that was stopped on this disk, and begins a life with it. The disk is handed back where the store isn't opened, or its
-/// first view not built.
+/// Opens the store that was stopped on this disk, and begins a life with it. The disk is handed back if the store is not opened, or its first view is not
+/// built.
 fn reopen<R: Threads, D: Stoppable>(
     rt: &R,
     alloc: Global,
@@ -129,7 +129,7 @@ fn reopen<R: Threads, D: Stoppable>(
     ensures honest { D.honest disk → IfErr result (λ refused. D.honest refused.1) }
     ensures passing { D.honest disk → ((c : List ℕ) → D.left disk c → IsStoreFile c) → IfErr result (λ refused. IsPassing refused.0) }
     ensures among { D.honest disk → IfErr result (λ refused. AreAmong (D.left refused.1) (D.left disk)) }
-    // The count of failures rises by one where 43 is told, and else not at all.
+    // The count of failures rises by one if 43 is reported, and otherwise not at all.
     ensures counted { MatchResult result (λ life. D.failures life.keeper.disk ≡ D.failures disk)
         (λ why. D.failures why.1 ≡ failures_with why.0 (D.failures disk)) }
 {
@@ -141,7 +141,7 @@ fn reopen<R: Threads, D: Stoppable>(
 }
 
 impl<D: Stoppable> Halted<D> {
-    /// Opens what the stop left, and begins the next life; or ends the run, where the store isn't opened or its first view not built.
+    /// Opens what the stop left, and begins the next life. If the store is not opened or its first view is not built, it ends the run.
     fn resume<R: Threads>(self, rt: &R, alloc: Global) -> Result<Run<D>, Rehearsal<D>>
         requires { MayResume self }
         ensures goes { GoesOrEnds self.delta (D.honest self.disk) result }
@@ -190,7 +190,7 @@ impl<D: Stoppable> Halted<D> {
 }
 
 impl<D: Stoppable> Run<D> {
-    /// Makes room for the replies of one event, and for what the history may take.
+    /// Makes room for the replies of one event, and for what the history may need.
     fn grow(&mut self) -> Result<(), Refusal>
         ensures history { self.new.history.items ≡ self.old.history.items }
         ensures replies { self.new.replies.items ≡ self.old.replies.items }
@@ -208,7 +208,7 @@ impl<D: Stoppable> Run<D> {
         Ok(())
     }
 
-    /// Closes the keeper and stops the disk. Answers whether an armed call came.
+    /// Closes the keeper and stops the disk. Returns whether an armed call came.
     fn halt(self, picks: &[Pick]) -> (Halted<D>, bool)
         ensures leaves { Leaves self result.0 }
         ensures halted { IsTidy self → IsHaltedBy (picks_taken picks.now) self result.0 }
@@ -250,7 +250,7 @@ impl<D: Stoppable> Run<D> {
         halted.resume(rt, alloc)
     }
 
-    /// A stop within the write or sync of this number of an event that writes, or behind that where it makes fewer.
+    /// A stop within the write or sync of this number of an event that writes; or after the event, if it makes fewer.
     fn stop_within<R: Threads>(
         self,
         rt: &R,
@@ -300,7 +300,7 @@ impl<D: Stoppable> Run<D> {
         }
     }
 
-    /// Ends the run, before an event or behind the last.
+    /// Ends the run, before an event or after the last.
     fn end(self, ended: Option<Refusal>) -> Rehearsal<D>
         requires room { vec_len self.history + length self.life.keeper.machine.accepted ≤ vec_capacity self.history }
         ensures history { result.history.items ≡ self.history.items ++ self.life.keeper.machine.accepted }
@@ -329,18 +329,17 @@ impl<D: Stoppable> Run<D> {
     }
 }
 
-/// Runs a script's events over lives with stops, on a store that is not broken. It really drives the disk: a stop within an event
-/// arms it before the event, and each stop cuts it by its picks and opens what is left. `delta`, 1 to 2147483647, is the width of the buckets of
-/// each view's searches; where none is given it is the network's default. A stop within a call of number 0 arms nothing, so it comes behind its
-/// event, and one without picks takes the old bytes.
+/// Runs a script's events over lives with stops, on a store that is not broken. It really drives the disk: for a stop within an event it arms the disk
+/// before the event, and each stop cuts the disk by its picks and opens what is left. `delta`, 1 to 2147483647, is the width of the buckets of each view's
+/// searches. If none is given, it is the network's default. A stop within a call of number 0 arms nothing, so it comes after its event. A stop without
+/// picks takes the old bytes.
 ///
-/// Each event has one reply, and a stop that comes behind its event has a second one. A view that is kept aside and all pending groups are
-/// lost by a stop. The run ends before an event for want of memory (11), or with a stop whose store is not opened, or whose first view is not
-/// built (43 or 11).
+/// Each event has one reply, and a stop that comes after its event has a second one. A stop loses the view that was set aside and all pending groups. The
+/// run ends before an event for lack of memory (11), or with a stop after which the store is not opened or its first view is not built (43 or 11).
 ///
-/// On a new store of `examples/six.gr`, the group of `Close { arc: 7 }` and a flush that is cut at its third write or sync are replied to with
-/// `Accepted { number: 1 }` and with `Opened { version: 0 }` where the picks are old, `Opened { version: 1 }` where they are new; the history has
-/// no group then, or that one.
+/// On a new store of `examples/six.gr`, the group of `Close { arc: 7 }` and a flush that is cut at its third write or sync have the replies `Accepted {
+/// number: 1 }` and, if the picks are old, `Opened { version: 0 }`, or, if they are new, `Opened { version: 1 }`. Then the history has no group, or that
+/// one.
 pub fn rehearse<R: Threads, D: Stoppable>(
     rt: &R,
     alloc: Global,
@@ -350,25 +349,25 @@ pub fn rehearse<R: Threads, D: Stoppable>(
 ) -> Rehearsal<D>
     requires calm { is_calm store ≡ true }
     requires width { ForSome delta IsWidth }
-    // The run is one of the lives of the store's network and version, and a stop now leaves of the disk what its last state says.
+    // The run is one of the lives of the store's network and version, and what a stop now leaves on the disk agrees with its last state.
     ensures lives { CameTidy D.honest D.content store.given → HasLivedTo D.left (first_of store) events.now result }
-    // Of each content that a stop leaves: it stands for the network after a beginning of the accepted groups, in which each acknowledged one has
-    // its number; and each answered query names a version up to it, and is right in that version's network.
+    // Each content that a stop leaves stands for the network after a front of the accepted groups, in which each acknowledged one has its number. Each
+    // answered query names a version up to that, and is right in that version's network.
     ensures told { CameTidy D.honest D.content store.given → HasToldForGood D.left (first_of store) events.now result }
-    // Each stop of the events that were run cut a disk that held what the run's state there allows, by its picks: the i-th byte, ascending, that was not
-    // synced took pick i mod n. What it left stands for the network at the version that the stop's own reply tells. Before an event with a stop
-    // within, the call that it names was armed, on a disk that held what the state there allows. The armed call has come where no reply but the
-    // stop's own is told, and has not where the event's own is 43.
+    // Each stop of the events that were run cut a disk that held what the run's state allows there, by its picks: the i-th unsynced byte, ascending, took
+    // pick i mod n. What it left stands for the network at the version in the stop's own reply. Before an event with a stop within, the call that it names
+    // was armed, on a disk that held what the state allows there. The armed call has come if there is no reply but the stop's own, and has not come if the
+    // event's own reply is 43.
     ensures cut { CameTidy D.honest D.content store.given
         → HaveCut D.Disk (stops_by D.synced D.is_unsynced D.armed) (first_of store) events.now result.replies.items result.ended }
     // The disk that is handed back keeps the disk model.
     ensures honest { CameTidy D.honest D.content store.given → D.honest result.disk }
-    // Whatever the disk, it ends early with a refusal of an opening alone: 11, or 40 to 43.
+    // Whatever the disk, it ends early only with a refusal of an opening: 11, or 40 to 43.
     ensures causes { IfSome result.ended MayEndOpening }
-    // The width that was given is told back.
+    // The width that was given is returned.
     ensures width { width_of result ≡ delta }
-    // Over any disk its count of failures rises by one for each failure that the replies tell, with 43 or by a stop that came within an event,
-    // and by one more where the run ended with 43, whose last stop left a disk that then failed. A stop leaves the count as it is.
+    // On any disk its count of failures rises by one for each failure that the replies report, with 43 or by a stop that came within an event, and by one
+    // more if the run ended with 43, because the disk failed after the last stop. A stop leaves the count as it is.
     ensures failed { EndsAsTold events.now result.replies.items result.ended (D.failures store.disk) (D.failures result.disk) }
 {
     let life = match Life::begin(rt, alloc, store, delta) {

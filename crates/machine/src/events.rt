@@ -3,12 +3,12 @@ use crate::pages::StepPages;
 use roadnet::{Group, Refusal};
 use rows::Query;
 
-/// An event that writes to the disk, and so can be stopped within.
+/// An event that writes to the disk, so that a stop can come within it.
 #[derive(Clone, Copy, Debug, PartialEq, Eq)]
 pub enum Writing {
     /// The first pending groups are made durable.
     Flush,
-    /// Steps of 64 pages, until the checkpoint is done.
+    /// Steps of 64 pages until the checkpoint is done.
     Checkpoint,
     /// A step of a checkpoint.
     Step { pages: StepPages },
@@ -25,25 +25,25 @@ pub enum Event<P> {
     },
     /// The first pending groups are made durable.
     Flush,
-    /// Steps of 64 pages, until the checkpoint is done.
+    /// Steps of 64 pages until the checkpoint is done.
     Checkpoint,
     /// A step of a checkpoint.
     CheckpointStep {
         pages: StepPages,
     },
-    /// A task is taken, and its view built and kept aside.
+    /// A task is taken, and its view is built and set aside.
     Task,
-    /// The view that is kept aside is shown.
+    /// The view that was set aside is shown.
     Publish,
-    /// A query is answered from the view that is shown.
+    /// A query is answered from the shown view.
     Ask {
         query: Query,
     },
-    /// A stop between two calls, and an opening.
+    /// A stop between two calls, and then an opening.
     Stop,
-    /// A stop within a write or sync of the event, and an opening. The write or sync is the one of number `call`, from 1 on; where
-    /// the event makes fewer, the stop comes behind it. The i-th byte, ascending, of those written since the last sync takes the pick
-    /// `i mod picks.len()`, i from 0.
+    /// A stop within a write or sync of the event, and then an opening. `call` is the number of the write or sync, counted from 1. If the event makes
+    /// fewer, the stop comes after it. The i-th of the bytes written since the last sync, in ascending order and i from 0, takes the pick `i mod
+    /// picks.len()`.
     StopWithin {
         call: u64,
         picks: Vec<P>,
@@ -51,14 +51,14 @@ pub enum Event<P> {
     },
 }
 
-/// What is told of an event: one variant for each form of output, with its numbers.
+/// The reply to an event: one variant for each form of output, with its numbers.
 #[derive(Clone, Copy, Debug, PartialEq, Eq)]
 pub enum Replied {
     /// The group was accepted as this number, and is not acknowledged yet.
     Accepted { number: u64 },
     /// After a flush: the versions up to this one are durable. After a checkpoint: the version that it holds.
     Durable { version: u64 },
-    /// After a step of a checkpoint: some of its pages are still to be written.
+    /// After a step of a checkpoint: some of its pages are not written yet.
     Stepped,
     /// A task of this version was taken.
     Task { version: u64 },

@@ -1,5 +1,5 @@
-//! What a keeper of a store is: a machine whose steps are its calls, the runs of the machine over lives with stops, and the laws that
-//! hold of them. There is no keeper here, no store and no disk.
+//! What a keeper of a store is: a machine whose steps are its calls, the runs of the machine over lives with stops, and the laws of these. This crate has
+//! no keeper, no store and no disk.
 #![tactic(auto)]
 
 mod calls;

@@ -11,7 +11,7 @@ pub struct StepPages {
 }
 
 impl StepPages {
-    /// So many pages; nothing where that is none, or more than 64.
+    /// This many pages; nothing for 0 or more than 64.
     pub fn new(pages: u64) -> Option<StepPages>
         ensures { MatchOption result ((pages < 1) ⊎ (64 < pages)) (λ step. step.pages ≡ pages) }
     {

@@ -1,4 +1,4 @@
-// What a refusal rests on.
+// What a refusal depends on.
 ghost use Rattle.std.specs.Prelude.{◌≡◌, ◌+◌, ◌<◌, ◌≤◌, length, IfSome, IfNone};
 ghost use mathlib.Core.List.{IsPrefix};
 
@@ -8,7 +8,7 @@ use disk::Disk;
 use history::Front;
 use std::marker::Model;
 
-/// The basis of a refusal: the groups that the desk had accepted by then, which begin its history. Contracts see that beginning.
+/// The basis of a refusal: the groups that the desk had accepted by then, which begin its history. Contracts see that front.
 #[derive(Drop)]
 pub struct Basis {
     // the version after them
@@ -37,7 +37,7 @@ impl Basis {
 }
 
 impl<N: Naming, D: Disk> Office<N, D> {
-    /// All groups that are accepted.
+    /// All accepted groups.
     pub fn basis(&self) -> Basis
         ensures origin { result.origin ≡ N.origin }
         ensures groups { result.groups ≡ self.now.machine.accepted }
@@ -49,7 +49,7 @@ impl<N: Naming, D: Disk> Office<N, D> {
         }
     }
 
-    /// A beginning of the desk's history that has the groups of a basis, which are acknowledged in it, where they are durable: no stop takes them back.
+    /// A front of the desk's history that has the groups of a basis, as acknowledged ones, if they are durable: no stop takes them back.
     pub fn acknowledge(&mut self, basis: &Basis) -> Option<Front>
         requires { basis.now.origin ≡ N.origin }
         ensures origin { IfSome result (λ front. front.origin ≡ N.origin) }

@@ -16,16 +16,16 @@ use roadnet::Refusal;
 use store::Part;
 
 impl<N: Naming, D: Disk> Office<N, D> {
-    /// A step of a checkpoint of the durable network, of so many pages, 1 to 64, as the keeper's. Answers `Done` with the version that the
-    /// checkpoint holds, or `Going` where some of its pages are left.
+    /// A step of a checkpoint of the durable network, as the keeper's, of at most this many pages, 1 to 64. Returns `Done` with the version that the
+    /// checkpoint holds, or `Going` if some of its pages are left.
     ///
-    /// Refused is a broken store (45); then want of memory (11), where one would begin; then a disk that failed (43), after which the store
-    /// is broken. After each other refusal nothing is changed.
+    /// It is refused if the store is broken (45); then for lack of memory (11) when a checkpoint would begin; then if the disk fails (43), after which the
+    /// store is broken. After any other refusal nothing has changed.
     pub fn checkpoint_step(&mut self, pages: u32) -> Result<Part, Refusal>
         requires some { 1 ≤ pages }
         requires few { pages ≤ 64 }
         ensures step { StepsCheckpoint self.old.machine pages (told_as result) self.new.machine }
-        // Where none is going and no page is unchecked, nothing is changed, the disk neither.
+        // If no checkpoint is going and no page is unchecked, nothing is changed, not even on the disk.
         ensures nothing { self.old.machine.broken ≡ false → has_nothing_unchecked self.old.machine ≡ true → self.new ≡ self.old }
         ensures same { IfErr result (λ refusal. refusal ≢ device → self.new ≡ self.old) }
         ensures memory { IfErr result (λ refusal. refusal ≡ out_of_memory → self.old.machine.checkpoint ≡ None) }
@@ -34,7 +34,7 @@ impl<N: Naming, D: Disk> Office<N, D> {
         ensures width { self.new.width ≡ self.old.width }
         ensures given { self.new.given ≡ self.old.given }
         ensures adds_nothing { self.old.machine.broken ≡ true → AddsNothing D.moment D.left_since self.old.disk self.new.disk }
-        // A stop at any moment of the call leaves what stands for what is durable.
+        // A stop during the call leaves content that stands for what is durable.
         ensures any_moment { WhenTidy N.came_tidy self.old (LeavesOnly D.moment D.left_since self.old.disk self.new.disk (IsDurableIn self.old.machine)) }
         ensures honest { D.honest self.new.disk ↔ D.honest self.old.disk }
     {

@@ -1,4 +1,4 @@
-// An office closed.
+// An office that is closed.
 ghost use Rattle.std.specs.Prelude.{◌≡◌, ◌<◌, ◌≤◌, List, take, length, MatchBool};
 ghost use Rattle.std.proofs.Props.{props};
 ghost use Rattle.disk.specs.Contents.{AreAmong};
@@ -16,8 +16,8 @@ use published::Shown;
 use roadnet::Group;
 use std::sync::Wait;
 
-/// What is left of a desk: the groups that it accepted, in order, what was shown last, and the disk, whose journal has so many pages. What
-/// was shown last is a beginning of the history.
+/// What a desk leaves: the groups that it accepted, in order, what was shown last, and the disk, whose journal has so many pages. What was shown last is a
+/// front of the history.
 #[derive(Drop)]
 pub struct Closed<D: Disk> {
     pub history: Vec<Group>,
@@ -25,7 +25,7 @@ pub struct Closed<D: Disk> {
     pub disk: D,
     /// How many pages the journal on the disk has.
     pub journal_pages: u32,
-    /// The history as tokens are compared with it.
+    /// The history with which tokens are compared.
     pub whole: Whole,
     ghost listed: { whole.groups ≡ history.items },
     ghost desk: { shown.origin ≡ whole.origin } by { Prim.hlevel props },
@@ -33,8 +33,8 @@ pub struct Closed<D: Disk> {
 }
 
 impl<N: Naming, D: Disk> Office<N, D> {
-    /// Closes the office: no group is accepted any more, and no reader can look. No call of the disk is made. It waits for those readers that
-    /// are taking a share of the view.
+    /// Closes the office: no more groups are accepted, and readers can no longer look. No call of the disk is made. It waits for those readers that are
+    /// taking a share of the view.
     pub fn close<R: Wait>(self, rt: &R) -> Closed<D>
     where
         D: Drop,
@@ -46,7 +46,7 @@ impl<N: Naming, D: Disk> Office<N, D> {
         ensures pages { result.journal_pages ≡ self.machine.sizes.journal_pages }
         // The disk keeps the disk model.
         ensures honest { N.came_tidy → D.honest result.disk }
-        // What a stop may leave of the disk stands for the network after a beginning of the history, with all that was acknowledged or shown.
+        // What a stop may leave on the disk stands for the network after a front of the history that has everything acknowledged or shown.
         ensures left { N.came_tidy → AreAmong (D.left result.disk) (KeepsDesk result.whole result.shown result.journal_pages) }
     {
         let _ = self.keeper.opened();
@@ -72,19 +72,19 @@ impl<N: Naming, D: Disk> Office<N, D> {
 }
 
 impl<D: Disk> Closed<D> {
-    /// The group at the receipt's number, where the receipt is of this desk: it is lent by the receipt. It takes no memory.
+    /// The group at the receipt's number, if the receipt is of this desk. The receipt lends it. It takes no memory.
     pub fn confirm<'a>(&self, receipt: &'a Settled) -> &'a Group
         requires { receipt.now.origin ≡ self.now.whole.origin }
         ensures group { result.now ≡ receipt.now.ticket.group }
         ensures there { IsAt self.now.whole.origin.version self.now.history.items receipt.now.ticket }
         ensures acknowledged { receipt.now.ticket.number ≤ self.now.whole.acknowledged }
-        // It stands at its number in each beginning of the history that has all that was acknowledged and shown.
+        // It is at its number in each front of the history that has everything acknowledged and shown.
         ensures kept { (kept : List Accepted) → KeepsSeen self.now.whole self.now.shown kept → IsAt self.now.whole.origin.version kept receipt.now.ticket }
     {
         self.whole.confirm(receipt)
     }
 
-    /// Whether what was shown last begins with these groups, a beginning of this desk's history. Else it is shorter. It takes no memory.
+    /// Whether what was shown last begins with these groups, a front of this desk's history. Otherwise it is shorter. It takes no memory.
     pub fn has_shown(&self, known: &Front) -> bool
         requires { known.now.origin ≡ self.now.whole.origin }
         ensures { MatchBool result (IsPrefix known.now.groups self.now.shown.groups) (length self.now.shown.groups < length known.now.groups) }

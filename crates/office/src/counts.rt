@@ -1,4 +1,4 @@
-// How an office stands, in numbers of its machine. None of these takes memory.
+// How an office stands, in numbers of its machine. None of these calls takes memory.
 ghost use Rattle.std.specs.Prelude.{◌≡◌, ◌≤◌, Some, length};
 ghost use Rattle.machine.specs.Machine.{latest, most_of_life, network_at, of_life};
 
@@ -23,7 +23,7 @@ impl<N: Naming, D: Disk> Office<N, D> {
         self.keeper.latest()
     }
 
-    /// The network of the version that is shown.
+    /// The network of the shown version.
     pub fn network(&self) -> &Network
         ensures { network_at self.now.machine self.now.machine.shown ≡ Some result.now }
     {

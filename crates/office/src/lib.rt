@@ -1,5 +1,5 @@
-//! What lies under the lock of a desk: the keeper, the history of its groups and the readers' copy, which agree each time the lock is
-//! got; and what callers carry away from it.
+//! The state under the lock of a desk: the keeper, the history of its groups and the readers' copy, which agree whenever the lock is acquired; and what
+//! callers carry away from it.
 #![tactic(auto)]
 
 mod bases;

@@ -1,14 +1,14 @@
 use std::marker::Brand;
 
-/// Which desk an office is of, by its type: so whoever gets a lock round one knows its desk. It lies in proofs alone; a caller picks it for
-/// the history and the store at hand.
+/// The desk of an office, as a type: so whoever acquires a lock around an office knows its desk. It exists only in proofs. A caller chooses it for the
+/// history and the store at hand.
 pub trait Naming {
     ghost use Rattle.history.specs.Origins.{Origin};
 
-    /// The network that the desk was opened with, its version, and its history.
+    /// The network with which the desk was opened, its version, and its history.
     ghost origin: { Origin };
 
-    /// The desk's store came tidy, over a disk that keeps the disk model.
+    /// The desk's store came tidy, on a disk that keeps the disk model.
     ghost came_tidy: { Type 0 };
 }
 

@@ -1,4 +1,4 @@
-// What an office tells of its machine. None of these takes memory.
+// What an office says of its machine. None of these calls takes memory.
 ghost use Rattle.std.specs.Prelude.{◌≡◌};
 ghost use Rattle.machine.specs.Machine.{pending};
 ghost use Rattle.keeper.specs.Keeping.{Holds};
@@ -9,8 +9,8 @@ use crate::offices::Office;
 use disk::Disk;
 
 impl<N: Naming, D: Disk> Office<N, D> {
-    /// The versions up to this one are durable. Each time the lock is got, the office is in a state of the keeper's machine, which runs from the
-    /// desk's network and version; and where the desk's store came tidy, the disk holds what is durable.
+    /// The versions up to this one are durable. Whenever the lock is acquired, the office is in a state of the keeper's machine, which runs from the desk's
+    /// network and version; and if the desk's store came tidy, the disk holds what is durable.
     pub fn durable(&self) -> u64
         ensures version { result ≡ self.now.machine.durable }
         ensures desk { RunsFrom N.origin self.now.machine }
@@ -35,7 +35,7 @@ impl<N: Naming, D: Disk> Office<N, D> {
         self.keeper.shown()
     }
 
-    /// How many pages of the journal no checkpoint has made needless.
+    /// How many pages of the journal are still needed because no checkpoint covers them.
     pub fn unchecked(&self) -> u32
         ensures { result ≡ self.now.machine.unchecked }
     {
@@ -49,7 +49,7 @@ impl<N: Naming, D: Disk> Office<N, D> {
         self.keeper.journal_pages()
     }
 
-    /// Whether a write failed: nothing is written before the store is opened again.
+    /// Whether a write failed. Then nothing is written before the store is opened again.
     pub fn broken(&self) -> bool
         ensures { result ≡ self.now.machine.broken }
     {

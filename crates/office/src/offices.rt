@@ -1,4 +1,4 @@
-// An office begun.
+// The beginning of an office.
 ghost use Rattle.std.specs.Prelude.{◌≡◌, [], true, IfOk};
 ghost use Rattle.store.specs.State.{CameTidy, is_calm};
 ghost use Rattle.machine.specs.Machine.{start};
@@ -16,7 +16,7 @@ use std::marker::{Model, PhantomData};
 use std::sync::{Arc, Wait};
 use store::Store;
 
-/// The state under a desk's lock. Contracts see it as its keeper: what the history has, and what readers see, follows from that.
+/// The state under a desk's lock. Contracts see it as its keeper, from which the content of the history and what readers see follow.
 #[derive(Drop)]
 pub struct Office<N: Naming, D: Disk> {
     pub(crate) keeper: Keeper<D>,
@@ -38,10 +38,10 @@ impl<N: Naming, D: Disk> Model for Office<N, D> {
 }
 
 impl<N: Naming, D: Disk> Office<N, D> {
-    /// An office over a store that is not broken, with the history of a new desk: nothing is pending, and this view of the store's network and
-    /// version is shown. The width of the office's searches is the view's.
+    /// An office over a store that is not broken, with the history of a new desk: nothing is pending, and this view of the store's network and version is
+    /// shown. The width of the office's searches is the view's.
     ///
-    /// The one error is want of memory, and then the store is dropped.
+    /// The only error is lack of memory; then the store is dropped.
     pub fn new<R: Wait>(
         rt: &R,
         alloc: Global,

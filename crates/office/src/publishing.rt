@@ -16,10 +16,9 @@ use rows::View;
 use std::sync::{Arc, Wait};
 
 impl<N: Naming, D: Disk> Office<N, D> {
-    /// A task, as the keeper's: the durable version with a copy of its network. There is none while a task is out, and where the durable version is
-    /// shown.
+    /// A task, as the keeper's: the durable version with a copy of its network. There is no task while one is out, or if the durable version is shown.
     ///
-    /// The one error is want of memory, and then nothing has changed.
+    /// The only error is lack of memory; then nothing has changed.
     pub fn take_task(&mut self) -> Result<Option<Task>, OutOfMemory>
         ensures step { TakesTask self.old.machine (or_out_of_memory (result_map (option_map (λ t. (t.version, t.network.value))) result)) self.new.machine }
         ensures disk { self.new.disk ≡ self.old.disk }
@@ -29,10 +28,10 @@ impl<N: Naming, D: Disk> Office<N, D> {
         self.keeper.take_task()
     }
 
-    /// A task, as `take_task` takes it, to be carried out outside the lock: it is the groups that lead from the shown version to the durable one.
-    /// No network is copied, and nothing goes over its arcs.
+    /// A task, as `take_task` takes it, to be carried out outside the lock: the groups that lead from the shown version to the durable one. No network is
+    /// copied, and there is no pass over its arcs.
     ///
-    /// The one error is want of memory, and then nothing has changed.
+    /// The only error is lack of memory; then nothing has changed.
     pub fn take_work(&mut self) -> Result<Option<Work>, OutOfMemory>
         ensures step { TakesTask self.old.machine (or_out_of_memory (result_map (option_map (λ w. (w.version, w.network))) result)) self.new.machine }
         ensures origin { IfOk result (λ work. IfSome work (λ w. w.origin ≡ N.origin)) }
@@ -49,7 +48,7 @@ impl<N: Naming, D: Disk> Office<N, D> {
         Ok(Some(Work { task, groups }))
     }
 
-    /// The task of this version, if it is out, is out no more. It takes no memory.
+    /// Ends the task of this version, if it is out. It takes no memory.
     pub fn give_up(&mut self, version: u64)
         ensures step { self.new.machine ≡ without_task self.old.machine version }
         ensures disk { self.new.disk ≡ self.old.disk }
@@ -59,10 +58,10 @@ impl<N: Naming, D: Disk> Office<N, D> {
         self.keeper.give_up(version)
     }
 
-    /// Shows the view of the task that is out to readers, and answers the version that is shown. It waits for those readers that are still
-    /// taking a share of the view before the one that they see now.
+    /// Shows the view of the task that is out to readers, and returns the shown version. It waits for those readers that are still taking a share of the
+    /// view before the one that they see now.
     ///
-    /// Refused is what the keeper refuses (51, 52), and then want of memory in the readers' copy (11). The view is handed back and nothing has
+    /// It is refused as the keeper refuses (51, 52), and then for lack of memory in the readers' copy (11). Then the view is handed back and nothing has
     /// changed: the task is out, and readers see what they saw.
     pub fn publish<R: Wait>(&mut self, rt: &R, view: Arc<View>) -> Result<u64, (Refusal, Arc<View>)>
         ensures step { IfOk result (λ shown. Publishes self.old.machine view.value.version view.value.network (Ok shown) self.new.machine) }
@@ -80,8 +79,7 @@ impl<N: Naming, D: Disk> Office<N, D> {
         self.show_admitted(rt, view)
     }
 
-    /// For what `show` of what was built would be refused, memory apart: 51 where no task is out, 52 where the task's version is another. It
-    /// takes no memory.
+    /// Why `show` of what was built would be refused, apart from memory: 51 if no task is out, 52 if the task's version is another. It takes no memory.
     fn may_show(&self, built: &Built) -> Result<(), Refusal>
         requires { built.now.shown.origin ≡ N.origin }
         ensures { MatchResult result (λ _. IsTask self.now.machine built.now.view.version built.now.view.network) (RefusesView self.now.machine built.now.view.version built.now.view.network) }
@@ -97,13 +95,13 @@ impl<N: Naming, D: Disk> Office<N, D> {
         Ok(())
     }
 
-    /// Shows what was built for the task that is out, as `publish` shows its view, without a look at the view's arcs: that its network is the
-    /// one at its version is a fact of the type.
+    /// Shows what was built for the task that is out, as `publish` shows its view, without a look at the view's arcs. It is a fact of the type that the
+    /// view's network is the one at its version.
     ///
-    /// Refused is what the keeper refuses (51, 52), and then want of memory in the readers' copy (11). What was built is handed back and nothing
+    /// It is refused as the keeper refuses (51, 52), and then for lack of memory in the readers' copy (11). Then what was built is handed back and nothing
     /// has changed.
     ///
-    /// With the task of version 1 out, what was built of it is shown; what was built of an earlier task is `OtherNetwork`.
+    /// With the task of version 1 out, what was built for it is shown. What was built for an earlier task is `OtherNetwork`.
     pub fn show<R: Wait>(&mut self, rt: &R, built: Built) -> Result<u64, (Refusal, Built)>
         requires { built.shown.origin ≡ N.origin }
         ensures step { IfOk result (λ shown. Publishes self.old.machine built.view.version built.view.network (Ok shown) self.new.machine) }
@@ -125,7 +123,7 @@ impl<N: Naming, D: Disk> Office<N, D> {
         }
     }
 
-    /// Shows the view of the task. Refused is want of memory in the readers' copy alone.
+    /// Shows the view of the task. It fails only for lack of memory in the readers' copy.
     fn show_admitted<R: Wait>(
         &mut self,
         rt: &R,
@@ -151,7 +149,7 @@ impl<N: Naming, D: Disk> Office<N, D> {
         Ok(self.keeper.publish_admitted(view))
     }
 
-    /// Tells what is shown: the accepted groups up to the shown version. It takes no memory.
+    /// Returns what is shown, as readers can learn it: the accepted groups up to the shown version. It takes no memory.
     pub fn tell(&self) -> Shown
         ensures origin { result.origin ≡ N.origin }
         ensures groups { result.groups ≡ groups_to self.now.machine self.now.machine.shown }
@@ -159,9 +157,9 @@ impl<N: Naming, D: Disk> Office<N, D> {
         self.publisher.tell()
     }
 
-    /// A reader of this desk, which has seen no group.
+    /// A reader of this desk that has not seen any group.
     ///
-    /// Refused is a place for it that is not found (60): there are 64, and while readers come and go a free one may be missed.
+    /// It fails with 60 if no free place is found: there are 64, and while readers come and go a free one may be missed.
     pub fn reader(&mut self) -> Result<Reader, Refusal>
         ensures reader { IfOk result (λ reader. (reader.origin ≡ N.origin) × (reader.groups ≡ [])) }
         ensures causes { IfErr result (λ refusal. refusal ≡ no_reader_place) }
@@ -170,7 +168,7 @@ impl<N: Naming, D: Disk> Office<N, D> {
         self.publisher.reader()
     }
 
-    /// How many readers there are at this moment. They are let go without the office, so a moment later there may be fewer.
+    /// How many readers there are at this moment. They are dropped without the office, so a moment later there may be fewer.
     pub fn readers(&self) -> u64 {
         self.publisher.readers()
     }

@@ -14,7 +14,7 @@ use published::Shown;
 use roadnet::Refusal;
 
 impl<N: Naming, D: Disk> Office<N, D> {
-    /// Why a number that is not durable has no receipt.
+    /// Why there is no receipt for a number that is not durable.
     fn unmade(&self) -> Refusal
         ensures { result ≡ (if self.now.machine.broken then broken else not_yet) }
     {
@@ -25,9 +25,9 @@ impl<N: Naming, D: Disk> Office<N, D> {
         }
     }
 
-    /// A receipt for the ticket, which is of this desk, where its group is durable, as the keeper's: no stop takes it back.
+    /// A receipt for the ticket, which is of this desk, if its group is durable, as the keeper's: no stop takes it back.
     ///
-    /// Refused is a number that is not durable: with 45 where the store is broken, else with 54. The ticket is handed back then.
+    /// If the number is not durable, it is refused with 45 if the store is broken, otherwise with 54. Then the ticket is handed back.
     pub fn receipt(&mut self, ticket: Claim) -> Result<Settled, (Refusal, Claim)>
         requires { ticket.origin ≡ N.origin }
         ensures step { OnOk result (receipt_for self.old.machine ticket.ticket ≡ Ok (receipt_of ticket.ticket)) }
@@ -48,7 +48,7 @@ impl<N: Naming, D: Disk> Office<N, D> {
         Ok(self.history.settled(ticket))
     }
 
-    /// What is shown, where that is the group of the ticket, which is of this desk, or behind it. It takes no memory.
+    /// What is shown, if it includes the group of the ticket, which is of this desk. It takes no memory.
     pub fn shown_since(&self, ticket: &Claim) -> Option<Shown>
         requires { ticket.now.origin ≡ N.origin }
         ensures origin { IfSome result (λ shown. shown.origin ≡ N.origin) }

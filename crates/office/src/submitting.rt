@@ -15,10 +15,9 @@ use history::Claim;
 use roadnet::{Group, Refusal};
 
 impl<N: Naming, D: Disk> Office<N, D> {
-    /// Accepts the group as the next number, as the keeper does, and writes it into the history. The ticket is for this group, of this
-    /// desk.
+    /// Accepts the group with the next number, as the keeper does, and writes it into the history. The ticket is for this group of this desk.
     ///
-    /// Refused as the keeper's `submit_group` is. Then nothing has changed.
+    /// It is refused as the keeper's `submit_group` is. Then nothing has changed.
     pub fn submit_group(&mut self, group: Group) -> Result<Claim, Refusal>
         ensures accepted { IfOk result (λ ticket. Submits self.old.machine group (Ok ticket.ticket) self.new.machine) }
         ensures origin { IfOk result (λ ticket. ticket.origin ≡ N.origin) }
@@ -33,11 +32,11 @@ impl<N: Naming, D: Disk> Office<N, D> {
         Ok(self.history.claim(ticket))
     }
 
-    /// Makes the first pending groups durable, the longest front of them with at most 253 commands, as the keeper's `flush` does: all of them or
-    /// none, whatever a stop does at any moment. Answers the durable version.
+    /// Makes the first pending groups durable, as many as have at most 253 commands together, as the keeper's `flush` does: all of them or none, whenever a
+    /// stop comes. Returns the durable version.
     ///
-    /// Refused, the first that holds, is a broken store (45), that nothing is pending (53), and a journal without a free page (44); then want
-    /// of memory (11); then a disk that failed (43), after which the store is broken. After each other refusal nothing is changed.
+    /// It is refused, in this order, if the store is broken (45), if nothing is pending (53), if the journal has no free page (44), or for lack of memory
+    /// (11); then if the disk fails (43), after which the store is broken. After any other refusal nothing has changed.
     pub fn flush(&mut self) -> Result<u64, Refusal>
         ensures step { Flushes self.old.machine result self.new.machine }
         ensures same { IfErr result (λ refusal. refusal ≢ device → self.new ≡ self.old) }
@@ -46,7 +45,7 @@ impl<N: Naming, D: Disk> Office<N, D> {
         ensures width { self.new.width ≡ self.old.width }
         ensures given { self.new.given ≡ self.old.given }
         ensures adds_nothing { self.old.machine.broken ≡ true → AddsNothing D.moment D.left_since self.old.disk self.new.disk }
-        // A stop at any moment of the call leaves what a flush that failed leaves.
+        // A stop during the call leaves what a failed flush may leave.
         ensures any_moment { WhenTidy N.came_tidy self.old (LeavesOnly D.moment D.left_since self.old.disk self.new.disk (IsLeftByFlush self.old.machine)) }
         ensures honest { D.honest self.new.disk ↔ D.honest self.old.disk }
     {

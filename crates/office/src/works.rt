@@ -1,4 +1,4 @@
-// What a task comes to outside the lock: its network, and the view that is built of it.
+// A task outside the lock: its network, and the view that is built of it.
 ghost use Rattle.std.specs.Prelude.{◌≡◌, IfOk};
 ghost use Rattle.roadnet.specs.Ends.{KeepsEnds};
 
@@ -9,8 +9,8 @@ use rows::View;
 use std::marker::Model;
 use std::sync::Arc;
 
-/// A version of a desk whose view is wanted. It is carried out outside the lock: its network is that of the view that was shown, with the
-/// groups since. Contracts see the desk, the version, the network and that view.
+/// A version of a desk whose view is wanted. It is built outside the lock: its network is that of the view that was shown, with the groups since. Contracts
+/// see the desk, the version, the network and that view.
 #[derive(Drop)]
 pub struct Work {
     pub(crate) task: GroupTask,
@@ -28,7 +28,7 @@ impl Model for Work {
     ghost invariant = { λ w. IsWanted w.groups w.task.version w.task.network.value };
 }
 
-/// The view of a work: its network and version are the work's, which is a fact of the type. It is made by `Work::built` alone.
+/// The view of a work: its network and version are the work's, which is a fact of the type. Only `Work::built` makes it.
 #[derive(Drop)]
 pub struct Built {
     pub(crate) view: Arc<View>,
@@ -54,19 +54,19 @@ impl Work {
         self.task.version
     }
 
-    /// The view that was shown as the task was taken.
+    /// The view that was shown when the task was taken.
     pub fn shown(&self) -> &View
         ensures { result.now ≡ self.now.before }
     {
         &self.task.view
     }
 
-    /// The network at the version: a copy of the shown view's, on which the groups since are carried out. The one error is want of memory.
+    /// The network at the version: a copy of the shown view's, with the groups since carried out. The only error is lack of memory.
     ///
-    /// Where version 0 of `examples/six.gr` is shown and `Close { arc: 7 }` is durable, arc 7 is closed in it.
+    /// If version 0 of `examples/six.gr` is shown and `Close { arc: 7 }` is durable, arc 7 is closed in it.
     pub fn network(&self) -> Result<Network, OutOfMemory>
         ensures network { IfOk result (λ network. network ≡ self.now.network) }
-        // Whatever is commanded, arcs keep their ends.
+        // Whatever the commands, arcs keep their ends.
         ensures ends { IfOk result (λ network. KeepsEnds self.now.before.network network) }
     {
         let mut network = self.task.view.network().copy()?;
@@ -77,7 +77,7 @@ impl Work {
         Ok(network)
     }
 
-    /// The view, which is of the work's network and version, as what `show` takes. It takes no memory.
+    /// The view, which is of the work's network and version, as `show` takes it. It takes no memory.
     pub fn built(&self, view: Arc<View>) -> Built
         requires version { view.value.version ≡ self.now.version }
         requires network { view.value.network ≡ self.now.network }

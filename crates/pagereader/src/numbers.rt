@@ -8,7 +8,7 @@ use crate::reader::read_page;
 use disk::{Disk, DiskError};
 use pages::{PAGE_SIZE, open_number};
 
-/// The first eight bytes of page `k` as a number, where the page's gate is open. Nothing is changed.
+/// The first eight bytes of page `k` as a number, if the page's gate is open. It changes nothing.
 pub fn read_open_number<D: Disk>(disk: &mut D, k: u64) -> Result<Option<u64>, DiskError>
     requires fits { k < 2 ^ 52 }
     requires within { D.honest disk.old → page_size * (k + 1) ≤ length (D.content disk.old) }

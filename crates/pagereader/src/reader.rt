@@ -11,7 +11,7 @@ use std::marker::Model;
 
 const BUFFER_SIZE: usize = PAGES_AT_ONCE * PAGE_SIZE;
 
-/// Reads page `k` of the file. Nothing is changed.
+/// Reads page `k` of the file. It changes nothing.
 pub fn read_page<D: Disk>(disk: &mut D, k: u64, into: &mut [u8; PAGE_SIZE]) -> Result<(), DiskError>
     requires fits { k < 2 ^ 52 }
     requires within { D.honest disk.old → page_size * (k + 1) ≤ length (D.content disk.old) }
@@ -87,7 +87,7 @@ impl PageReader {
         into.copy_from_slice(&self.buffer[at..at + PAGE_SIZE]);
     }
 
-    // Holds page `k`: reads as many pages as the buffer takes of those from `k` on, without `end`, where it isn't held yet.
+    // Holds page `k`: unless it is held, reads as many pages from `k` on as the buffer takes, stopping before `end`.
     fn hold<D: Disk>(&mut self, disk: &mut D, k: u64, end: u64) -> Result<(), DiskError>
         requires some { k < end }
         requires fits { k < 2 ^ 52 }
@@ -104,7 +104,7 @@ impl PageReader {
         self.fill(disk, k, end)
     }
 
-    // Reads as many pages as the buffer takes of those from `k` on, without `end`.
+    // Reads as many pages from `k` on as the buffer takes, stopping before `end`.
     fn fill<D: Disk>(&mut self, disk: &mut D, k: u64, end: u64) -> Result<(), DiskError>
         requires some { k < end }
         requires fits { k < 2 ^ 52 }
@@ -122,8 +122,8 @@ impl PageReader {
         Ok(())
     }
 
-    /// Reads page `k` of the file, one of a run of pages that ends before page `end`. Pages behind it may be read ahead. Nothing is changed,
-    /// and the file is to stay as it is while one reader reads it.
+    /// Reads page `k` of the file, one of a run of pages that ends before page `end`. It may read ahead. It changes nothing. The file must stay as it is
+    /// while one reader reads it.
     pub fn read<D: Disk>(
         &mut self,
         disk: &mut D,
@@ -137,7 +137,7 @@ impl PageReader {
         requires run { D.honest disk.old → IsRunOf (D.content disk.old) self.old }
         ensures bytes { D.honest disk.old → OnOk result (into.new ≡ page (D.content disk.old) k) }
         ensures run { D.honest disk.old → IsRunOf (D.content disk.old) self.new }
-        // The page stays held, so that it isn't read from the disk again.
+        // The page stays held, so that it is not read from the disk again.
         ensures kept { OnOk result (Holds self.new k) }
         ensures reads { Reads D.Disk result disk.old disk.new }
     {

@@ -73,7 +73,7 @@ fn read_places(alloc: Global, bytes: &[u8], count: usize) -> Result<Vec<Ends>, A
     Ok(ends)
 }
 
-/// Whether all is zero behind so many places.
+/// Whether everything after so many places is zero.
 fn is_zero_behind(page: &[u8; PAGE_SIZE], count: usize) -> bool
     requires { count ≤ 511 }
     ensures { result ≡ list_all (λ byte. byte == 0) (drop (8 * count) page.now) }
@@ -87,8 +87,7 @@ fn are_ends(ends: &[Ends], nodes: u32) -> bool
     ends.iter().all(|e| 1 <= e.tail && e.tail <= nodes && 1 <= e.head && e.head <= nodes)
 }
 
-/// The ends of arcs that the page spells, in a network of so many nodes, where so many places (at most 511) are in use. `None` where
-/// it spells none.
+/// The ends of arcs on the page, in a network of so many nodes, if so many places (at most 511) are in use. `None` if the page is not valid.
 pub fn decode_arc_page(
     alloc: Global,
     page: &[u8; PAGE_SIZE],

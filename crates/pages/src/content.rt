@@ -1,6 +1,6 @@
 use roadnet::Command;
 
-/// The format of a store file. Stores are made and opened in format 2; those of format 1 are read to be migrated.
+/// The format of a store file. Stores are created and opened in format 2. Those of format 1 are only read, to be migrated.
 #[derive(Clone, Copy, Debug, PartialEq, Eq)]
 pub enum Format {
     One,
@@ -21,7 +21,7 @@ impl Format {
         }
     }
 
-    /// The format of this number; every other number but 1 is taken for 2.
+    /// The format of this number. Every number except 1 counts as 2.
     pub fn numbered(number: u32) -> Format
         ensures { result ≡ format_numbered number }
     {
@@ -40,14 +40,14 @@ pub struct Ends {
     pub head: u32,
 }
 
-/// What a word page holds of an arc: its length, kept while it is closed, and whether it is open.
+/// What a word page has for an arc: its length, which a closed arc keeps, and whether it is open.
 #[derive(Clone, Copy, Debug, PartialEq, Eq)]
 pub struct Word {
     pub length: u32,
     pub opened: bool,
 }
 
-/// One of the two slots, in which checkpoints stand in turn.
+/// One of the two slots, which checkpoints use in turn.
 #[derive(Clone, Copy, Debug, PartialEq, Eq)]
 pub enum Slot {
     A,
@@ -58,7 +58,7 @@ impl Slot {
     ghost use Rattle.std.specs.Prelude.{◌≡◌};
     ghost use Rattle.pages.specs.Layout.{other};
 
-    /// The slot that this one is not.
+    /// The other slot.
     pub fn other(self) -> Slot
         ensures { result ≡ other self }
     {

@@ -5,18 +5,18 @@ use crate::writer::PAGE_SIZE;
 use byteorder::{BigEndian, ByteOrder};
 use disk::OPEN;
 
-/// The last byte of a header, of a slot's head or of a journal page: what stands before it counts only while its gate is open.
+/// The last byte of a header, of a slot's head or of a journal page. What comes before it counts only while its gate is open.
 #[derive(Clone, Copy, Debug, PartialEq, Eq)]
 pub enum Gate {
     Open,
     Closed,
 }
 
-/// Where the gate stands in its page.
+/// Where the gate is in its page.
 pub const GATE_AT: usize = PAGE_SIZE - 1;
 
 impl Gate {
-    /// The gate that this byte is: open at 0xA5, closed at each other.
+    /// The gate with this byte: open at 0xA5, closed at any other.
     pub fn of(byte: u8) -> Gate
         ensures { result ≡ gate_of byte }
     {
@@ -35,7 +35,7 @@ pub fn gate_of(page: &[u8; PAGE_SIZE]) -> Gate
     Gate::of(page[GATE_AT])
 }
 
-/// The first eight bytes of a page as a number, where the page's gate is open: the epoch of a slot's head, the sequence of a journal page.
+/// The first eight bytes of a page as a number, if the page's gate is open: the epoch of a slot's head, or the sequence of a journal page.
 pub fn open_number(page: &[u8; PAGE_SIZE]) -> Option<u64>
     ensures { result ≡ open_number page.now }
 {

@@ -14,21 +14,21 @@ use roadnet::{MOST_ARCS, MOST_NODES};
 /// The first bytes of a store.
 pub const MAGIC: [u8; 8] = *b"ROADMRK1";
 
-/// Whether the page begins as the first one of a store does, of whatever format.
+/// Whether the page begins as the first page of a store does, in any format.
 pub fn has_magic(page: &[u8; PAGE_SIZE]) -> bool
     ensures { result ≡ bytes_eq (take 8 page.now) magic }
 {
     page[..8] == MAGIC[..]
 }
 
-/// The number of the format, where the page is the first one of a store.
+/// The number of the format, if the page is the first one of a store.
 pub fn format_of(page: &[u8; PAGE_SIZE]) -> u32
     ensures { result ≡ big_number 4 (drop 8 page.now) }
 {
     BigEndian::read_u32(&page[8..])
 }
 
-/// The format of a store, and its sizes: the nodes, the arcs that it was made with, for how many arcs there is room, and the pages of its
+/// The format of a store, and its sizes: the nodes, the arcs that it was created with, the number of arcs that it has room for, and the pages of its
 /// journal.
 #[derive(Clone, Copy, Debug, PartialEq, Eq)]
 pub struct Header {
@@ -58,7 +58,7 @@ fn is_header(header: &Header) -> bool
         && (1..=65_536).contains(&header.journal_pages)
 }
 
-/// What stands at the place of the room.
+/// What is at the place of the room.
 fn room_field(format: Format, room: u32) -> u32
     ensures { result ≡ room_field format room }
 {
@@ -68,7 +68,7 @@ fn room_field(format: Format, room: u32) -> u32
     }
 }
 
-/// The room, by what stands at its place.
+/// The room, given what is at its place.
 fn room_read(format: Format, arcs: u32, field: u32) -> u32
     ensures { result ≡ room_read format arcs field }
 {
@@ -78,7 +78,7 @@ fn room_read(format: Format, arcs: u32, field: u32) -> u32
     }
 }
 
-/// The page of a header, its gate closed.
+/// The page of a header, with its gate closed.
 pub fn encode_header(header: &Header) -> [u8; PAGE_SIZE]
     ensures { result ≡ header_page header.now }
 {
@@ -92,7 +92,7 @@ pub fn encode_header(header: &Header) -> [u8; PAGE_SIZE]
     page.finish()
 }
 
-/// The numbers at the places of a header's.
+/// The numbers at the places of a header's numbers.
 fn read_header(page: &[u8; PAGE_SIZE]) -> Header
     ensures { result ≡ read_header page.now }
 {
@@ -111,14 +111,14 @@ fn read_header(page: &[u8; PAGE_SIZE]) -> Header
     }
 }
 
-/// Whether the page, its gate apart, is the header's.
+/// Whether the page, apart from its gate, is the header's.
 fn is_header_page(page: &[u8; PAGE_SIZE], header: &Header) -> bool
     ensures { IsTrue result ↔ (body page.now ≡ body (header_page header.now)) }
 {
     have_same_body(page, &encode_header(header))
 }
 
-/// The header that the page spells, in either format, whatever its gate. `None` where it spells none.
+/// The header of the page, in either format and with any gate. `None` if the page is not valid.
 pub fn decode_header(page: &[u8; PAGE_SIZE]) -> Option<Header>
     ensures { Decodes (SpelledHeader page.now) result }
 {

@@ -163,8 +163,8 @@ fn count_commands(groups: &[Group]) -> usize
     count
 }
 
-/// The page of these groups, the first of which has this number, its gate closed. They have 1 to 253 commands in all, and each number and
-/// length in them is below 2^32.
+/// The page of these groups, the first of which has this number, with its gate closed. The groups have 1 to 253 commands in all, and each number and length
+/// in them is below 2^32.
 pub fn encode_journal_page(sequence: u64, first_number: u64, groups: &[Group]) -> [u8; PAGE_SIZE]
     requires few { count_of groups.now ≤ most_commands }
     requires fits { All (FitsRecord two) (commands_of groups.now) }
@@ -193,7 +193,7 @@ fn encode_records(sequence: u64, first_number: u64, records: &[Record]) -> [u8; 
     page.finish()
 }
 
-/// The command of a record, if its kind is one.
+/// The command of a record, if its kind is valid.
 fn read_command(bytes: &[u8]) -> Option<Command>
     requires { 16 ≤ length bytes.now }
     ensures { result ≡ read_command bytes.now }
@@ -216,7 +216,7 @@ fn read_command(bytes: &[u8]) -> Option<Command>
     }
 }
 
-/// The record that stands there, if its kind is one.
+/// The record at this place, if its kind is valid.
 fn read_record(bytes: &[u8]) -> Option<Record>
     requires { 16 ≤ length bytes.now }
     ensures { result ≡ read_record bytes.now }
@@ -230,7 +230,7 @@ fn read_record(bytes: &[u8]) -> Option<Record>
     })
 }
 
-/// So many records, if the kind of each is one.
+/// So many records, if all their kinds are valid.
 fn read_records(
     alloc: Global,
     bytes: &[u8],
@@ -301,7 +301,7 @@ fn are_whole(records: &[Record]) -> bool
     }
 }
 
-/// Whether the page, its gate apart, is that of these records.
+/// Whether the page, apart from its gate, is that of these records.
 fn is_records_page(
     page: &[u8; PAGE_SIZE],
     sequence: u64,
@@ -316,8 +316,7 @@ fn is_records_page(
     have_same_body(page, &encoded)
 }
 
-/// The content that the page spells in this format, whatever its gate. `None` where it spells none. Whether a command is admitted is not
-/// judged here.
+/// The content of the page in this format, with any gate. `None` if the page is not valid. It is not judged here whether a command is admitted.
 pub fn decode_journal_page(
     alloc: Global,
     page: &[u8; PAGE_SIZE],

@@ -4,18 +4,18 @@ ghost use Rattle.pages.specs.Layout.{Arcs, HeadOf, Words, EndsOf, Journal, arc_p
 use crate::content::Slot;
 use crate::header::Header;
 
-/// The places of an arc page.
+/// How many places an arc page has.
 pub const ARCS_A_PAGE: usize = 511;
 
-/// The places of a word page.
+/// How many places a word page has.
 pub const WORDS_A_PAGE: usize = 1023;
 
-/// How many pages are read or written at once, at most.
+/// The most pages that are read or written at once.
 pub const PAGES_AT_ONCE: usize = 64;
 
 /// Page numbers of the file that has this header. The header itself is page 0.
 impl Header {
-    /// How many pages hold the ends of the arcs that the store was made with.
+    /// How many pages hold the ends of the arcs that the store was created with.
     pub fn arc_pages(&self) -> u64
         ensures { result ≡ arc_pages self.now }
     {
@@ -29,14 +29,14 @@ impl Header {
         u64::from(self.room).div_ceil(WORDS_A_PAGE as u64)
     }
 
-    /// How many pages hold the ends of the arcs laid since the store was made, in each slot.
+    /// How many pages hold, in each slot, the ends of the arcs laid since the store was created.
     pub fn end_pages(&self) -> u64
         ensures { result ≡ end_pages self.now }
     {
         u64::from(self.room.saturating_sub(self.arcs)).div_ceil(ARCS_A_PAGE as u64)
     }
 
-    /// How many pages stand behind a slot's head.
+    /// How many pages follow a slot's head.
     pub fn slot_pages(&self) -> u64
         ensures { result ≡ slot_pages self.now }
     {
@@ -106,7 +106,7 @@ impl Header {
         places_in_use(ARCS_A_PAGE, i, self.arcs)
     }
 
-    /// How many places of the `i`-th end page, counted from 0, are in use where there are so many arcs.
+    /// How many places of the `i`-th end page, counted from 0, are in use if there are so many arcs.
     pub fn ends_on_page(&self, i: u64, arcs: u32) -> usize
         ensures { result ≡ places_in_use 511 i (arcs - self.now.arcs) }
     {
@@ -114,7 +114,7 @@ impl Header {
     }
 }
 
-/// How many places of the `i`-th word page, counted from 0, are in use where there are so many arcs.
+/// How many places of the `i`-th word page, counted from 0, are in use if there are so many arcs.
 pub fn words_on_page(i: u64, arcs: u32) -> usize
     ensures { result ≡ places_in_use 1023 i arcs }
 {

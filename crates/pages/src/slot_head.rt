@@ -19,8 +19,8 @@ pub const MOST_VERSIONS: u64 = 1 << 48;
 
 const NUMBER_SIZE: usize = 4;
 
-/// The head of a slot: the number of its checkpoint, the version of the network that it holds, the sequence of the journal page that
-/// follows, how many arcs the network has, and its landmarks, ascending.
+/// The head of a slot: the number of its checkpoint, the version of its network, the sequence of the journal page that follows, how many arcs the network
+/// has, and its landmarks, ascending.
 #[derive(Debug, Drop)]
 pub struct SlotHead {
     epoch: u64,
@@ -39,7 +39,7 @@ impl Model for SlotHead {
 }
 
 impl SlotHead {
-    /// The slot's epoch, at least 1: of two open slots the one of the greater epoch is current.
+    /// The slot's epoch, at least 1. If two slots are open, the one of the greater epoch is current.
     pub fn epoch(&self) -> u64
         ensures { result ≡ self.now.epoch }
     {
@@ -53,7 +53,7 @@ impl SlotHead {
         self.version
     }
 
-    /// The sequence of the first journal page behind the slot, at most the version.
+    /// The sequence of the first journal page after the slot, at most the version.
     pub fn next_sequence(&self) -> u64
         ensures { result ≡ self.now.next_sequence }
     {
@@ -102,7 +102,7 @@ fn are_arcs(header: &Header, arcs: u32) -> bool
     header.arcs <= arcs && arcs <= header.room
 }
 
-/// Puts the number of arcs, where the format has it.
+/// Writes the number of arcs, if the format has it.
 fn put_arcs(page: &mut PageWriter, format: Format, arcs: u32)
     requires { length page.old + 4 ≤ 4096 }
     ensures { page.new ≡ page.old ++ arcs_field format arcs }
@@ -113,7 +113,7 @@ fn put_arcs(page: &mut PageWriter, format: Format, arcs: u32)
     }
 }
 
-/// Puts the numbers of a head, those behind which the landmarks stand.
+/// Writes the numbers of a head, which come before the landmarks.
 fn put_front(
     page: &mut PageWriter,
     format: Format,
@@ -134,7 +134,7 @@ fn put_front(
     put_arcs(page, format, arcs);
 }
 
-/// The page of a slot's head in this format, its gate closed. There are at most 1,000 landmarks.
+/// The page of a slot's head in this format, with its gate closed. There are at most 1,000 landmarks.
 pub fn encode_slot_head(
     format: Format,
     epoch: u64,
@@ -162,7 +162,7 @@ pub fn encode_slot_head(
     page.finish()
 }
 
-/// The number of arcs of the head of a slot in a store of these sizes.
+/// The number of arcs in the head of a slot, in a store of these sizes.
 fn read_arcs(page: &[u8; PAGE_SIZE], header: &Header) -> u32
     ensures { result ≡ arcs_read header.now.format header.now.arcs (big_number 4 (drop 28 page.now)) }
 {
@@ -172,7 +172,7 @@ fn read_arcs(page: &[u8; PAGE_SIZE], header: &Header) -> u32
     }
 }
 
-/// Where the landmarks stand.
+/// Where the landmarks are.
 fn landmarks_at(format: Format) -> usize
     ensures place { result ≡ landmarks_at format }
     ensures within { result ≤ 32 }
@@ -197,7 +197,7 @@ fn read_numbers(alloc: Global, bytes: &[u8], count: usize) -> Result<Vec<u32>, A
     Ok(numbers)
 }
 
-/// Whether the page, its gate apart, is that of a head of these parts.
+/// Whether the page, apart from its gate, is that of a head with these parts.
 fn is_head_page(
     page: &[u8; PAGE_SIZE],
     format: Format,
@@ -214,7 +214,7 @@ fn is_head_page(
     have_same_body(page, &encoded)
 }
 
-/// The head of a slot that the page spells in a store of these sizes, whatever its gate. `None` where it spells none.
+/// The head of a slot on the page, in a store of these sizes and with any gate. `None` if the page is not valid.
 pub fn decode_slot_head(
     alloc: Global,
     page: &[u8; PAGE_SIZE],

@@ -30,7 +30,7 @@ impl Model for WordPage {
 }
 
 impl WordPage {
-    /// The page's words, one an arc in the order of the arcs' numbers: at most 1,023.
+    /// The page's words, one for each arc in the order of the arcs' numbers: at most 1,023.
     pub fn words(&self) -> &[Word]
         ensures { result.now ≡ self.now }
     {
@@ -87,7 +87,7 @@ fn read_words(alloc: Global, bytes: &[u8], count: usize) -> Result<Vec<Word>, Al
     Ok(words)
 }
 
-/// Whether all is zero behind so many words.
+/// Whether everything after so many words is zero.
 fn is_zero_behind(page: &[u8; PAGE_SIZE], count: usize) -> bool
     requires { count ≤ 1023 }
     ensures { result ≡ list_all (λ byte. byte == 0) (drop (4 * count) page.now) }
@@ -95,7 +95,7 @@ fn is_zero_behind(page: &[u8; PAGE_SIZE], count: usize) -> bool
     are_zero(&page[WORD_SIZE * count..])
 }
 
-/// The words that the page spells, where so many places (at most 1,023) are in use. `None` where it spells none.
+/// The words on the page, if so many places (at most 1,023) are in use. `None` if the page is not valid.
 pub fn decode_word_page(
     alloc: Global,
     page: &[u8; PAGE_SIZE],

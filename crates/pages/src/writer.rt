@@ -9,7 +9,7 @@ use std::marker::Model;
 /// The size of a page in bytes.
 pub const PAGE_SIZE: usize = 4096;
 
-/// A page that is written from its first byte on. The bytes that are not written are zero.
+/// A page that is written from its first byte on. Bytes that are not written are zero.
 pub struct PageWriter {
     page: [u8; PAGE_SIZE],
     used: usize,
@@ -69,7 +69,7 @@ impl PageWriter {
         self.put_bytes(&bytes);
     }
 
-    /// Leaves bytes zero.
+    /// Skips bytes, which stay zero.
     pub fn skip(&mut self, count: usize)
         requires { length self.old + count ≤ 4096 }
         ensures { self.new ≡ self.old ++ zeros count }
@@ -85,7 +85,7 @@ impl PageWriter {
     }
 }
 
-/// Whether two pages are equal but for their gates.
+/// Whether two pages are equal apart from their gates.
 pub fn have_same_body(page: &[u8; PAGE_SIZE], other: &[u8; PAGE_SIZE]) -> bool
     ensures { IsTrue result ↔ (body page.now ≡ body other.now) }
 {

@@ -1,4 +1,4 @@
-//! A disk that tells how far a job has come. It passes every call on, and is what it wraps.
+//! A disk that reports how far a job has come. It passes every call on to the disk that it wraps.
 ghost use Rattle.std.specs.Prelude.{◌≡◌};
 ghost use Rattle.progress.specs.Inside.{disk_inside};
 
@@ -10,7 +10,7 @@ use std::time::Clock;
 /// The bytes of a page.
 const PAGE: u64 = 4096;
 
-/// Which page of a store's file was read last, of how many where that is known.
+/// Which page of a store's file was read last, and of how many, if that is known.
 #[derive(Clone, Copy)]
 struct PageRead {
     page: u64,
@@ -38,7 +38,7 @@ impl Display for PagesWritten {
     }
 }
 
-/// A disk that tells which page was read, and how many were written.
+/// A disk that reports which page was read, and how many were written.
 #[derive(Drop)]
 pub struct TellingDisk<'a, R, D> {
     progress: &'a Progress<'a, R>,

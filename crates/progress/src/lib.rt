@@ -1,4 +1,4 @@
-//! How far a job has come, told on standard error; readers, writers and disks that tell of their calls.
+//! Reports on standard error of how far a job has come; and readers, writers and disks that report their calls.
 #![tactic(auto)]
 
 mod disks;

@@ -1,14 +1,14 @@
-//! How far a job has come, told on standard error where `--verbose` asks for it.
+//! Reports on standard error of how far a job has come, if `--verbose` asks for them.
 ghost use Rattle.std.specs.Prelude.{◌≡◌};
 
 use std::cell::Cell;
 use std::fmt::{self, Display};
 use std::time::{Clock, Instant};
 
-/// How many seconds stand between two lines of progress at least.
+/// The least number of seconds between two lines of progress.
 const APART: u64 = 1;
 
-/// A name in a line that is told: what is no printable text in it is told escaped, as in a fault line.
+/// A name in a line of a report. What is not printable text in it is escaped, as in a fault line.
 #[derive(Clone, Copy)]
 pub struct ToldName<'a> {
     pub name: &'a str,
@@ -26,18 +26,18 @@ impl Display for ToldName<'_> {
     }
 }
 
-/// Tells of a job on standard error: lines `note: NAME: ..`, where NAME is a file of the job. A fault line begins with another word. Nothing depends on
-/// what is told: a line that can't be written is passed over, and so is one for which the clock tells no time.
+/// Reports on a job on standard error: lines `note: NAME: ..`, where NAME is a file of the job. A fault line begins with another word. Nothing depends on
+/// these reports: a line that cannot be written is skipped, and so is one for which the clock gives no time.
 #[derive(Drop)]
 pub struct Progress<'a, R> {
     rt: &'a R,
     is_asked: bool,
-    // When the last line of progress was told; at first when there was one to tell.
+    // When the last line of progress was written; at first, when there was first one to write.
     told_at: Cell<Option<Instant>>,
 }
 
 impl<'a, R> Progress<'a, R> {
-    /// Nothing is told yet, and nothing will be where it isn't asked for.
+    /// Nothing is reported yet, and nothing will be unless reports are asked for.
     pub fn new(rt: &'a R, is_asked: bool) -> Progress<'a, R> {
         Progress {
             rt,
@@ -46,7 +46,7 @@ impl<'a, R> Progress<'a, R> {
         }
     }
 
-    /// Whether anything is told.
+    /// Whether reports are asked for.
     pub fn is_asked(&self) -> bool
         ensures { result ≡ self.now.is_asked }
     {
@@ -55,7 +55,7 @@ impl<'a, R> Progress<'a, R> {
 }
 
 impl<'a, R: Clock> Progress<'a, R> {
-    /// Whether a line of progress may be told, which then counts as told: the last one is a second old.
+    /// Whether a line of progress may be written, because the last one is a second old. If so, it counts as written.
     fn is_due(&self) -> bool {
         let Ok(now) = Instant::now(self.rt) else {
             return false;
@@ -71,7 +71,7 @@ impl<'a, R: Clock> Progress<'a, R> {
 }
 
 impl<'a, R: Eprint> Progress<'a, R> {
-    /// Tells this of a file.
+    /// Reports this about a file.
     pub fn tell<D: Display>(&self, name: &str, what: &D) {
         if self.is_asked {
             let rt = self.rt;
@@ -82,7 +82,7 @@ impl<'a, R: Eprint> Progress<'a, R> {
 }
 
 impl<'a, R: Clock + Eprint> Progress<'a, R> {
-    /// Tells how far the work on a file has come, unless a line told of progress in the last second.
+    /// Reports how far the work on a file has come, unless a line of progress was written in the last second.
     pub fn tell_progress<D: Display>(&self, name: &str, how_far: &D) {
         if self.is_asked && self.is_due() {
             self.tell(name, how_far);

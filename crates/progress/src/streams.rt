@@ -1,4 +1,4 @@
-//! Streams that tell how far a job has come. Each passes every call on, and is what it wraps.
+//! Streams that report how far a job has come. Each passes every call on to the stream that it wraps.
 ghost use Rattle.std.specs.Prelude.{◌≡◌};
 ghost use Rattle.progress.specs.Inside.{reader_inside, writer_inside};
 
@@ -7,7 +7,7 @@ use std::fmt::{self, Display};
 use std::io::{self, ErrorKind, Read, Write};
 use std::time::Clock;
 
-/// How many bytes of a text were read, of how many where that is known.
+/// How many bytes of a text were read, and of how many, if that is known.
 #[derive(Clone, Copy)]
 struct BytesRead {
     count: u64,
@@ -23,7 +23,7 @@ impl Display for BytesRead {
     }
 }
 
-/// A reader of a text that tells how many bytes were read.
+/// A reader of a text that reports how many bytes were read.
 #[derive(Drop)]
 pub struct TellingReader<'a, R, S> {
     progress: &'a Progress<'a, R>,
@@ -33,7 +33,7 @@ pub struct TellingReader<'a, R, S> {
 }
 
 impl<'a, R, S> TellingReader<'a, R, S> {
-    /// Nothing is read yet, of so many bytes where that is known.
+    /// Nothing is read yet, of so many bytes, if that is known.
     pub fn new(
         progress: &'a Progress<'a, R>,
         name: &'a str,
@@ -85,7 +85,7 @@ fn lines_in(bytes: &[u8]) -> u64 {
     bytes.iter().filter(|byte| **byte == b'\n').count() as u64
 }
 
-/// A writer that tells how many lines were written.
+/// A writer that reports how many lines were written.
 #[derive(Drop)]
 pub struct TellingWriter<'a, R, S> {
     progress: &'a Progress<'a, R>,

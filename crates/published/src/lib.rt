@@ -1,5 +1,5 @@
-//! The view that is shown, as readers take it: they wait for nobody, and see what was published. What a reader sees begins with all that
-//! it saw before and all that it was told of.
+//! The shown view, as readers see it: they wait for nobody, and see what was published. What a reader sees begins with everything that it has seen before
+//! and everything that it has learned of.
 #![tactic(auto)]
 
 mod published;

@@ -6,8 +6,8 @@ use rows::View;
 use std::marker::Model;
 use std::sync::Arc;
 
-/// A view that is shown, with the groups after which it stands: its network is the desk's base after them, and its version the base's
-/// and as many more as there are groups.
+/// A shown view, with the groups after which it is shown: its network is the desk's base after these groups, and its version is the base's plus the number
+/// of groups.
 #[derive(Drop)]
 pub struct Published {
     pub(crate) view: Arc<View>,

@@ -19,7 +19,7 @@ use std::mem::ManuallyDrop;
 use std::sync::atomic::{AtomicU64, Ordering};
 use std::sync::{Arc, Wait};
 
-/// What shows views to readers. Contracts see it as the groups of what is shown, with its view.
+/// A value that shows views to readers. Contracts see it as the groups of what is shown, with the view.
 pub struct Publisher {
     writer: Copies,
     /// How many readers there are.
@@ -54,8 +54,8 @@ fn show<R: Wait>(rt: &R, writer: Copies) -> (Copies, Result<(), AllocError>)
     writer.publish_as::<Sees, R>(rt)
 }
 
-/// Shows what is shown once more, so that both copies have it and neither keeps the view before. It waits for those that read the copy that was shown
-/// until now. Where memory is wanting the view before is kept until the next switch.
+/// Shows the shown view once more, so that both copies have it and neither keeps the earlier view. It waits for those who read the copy that was shown
+/// until now. If there is no memory, the earlier view is kept until the next switch.
 fn show_again<R: Wait>(rt: &R, writer: Copies) -> Copies
     requires seated { seat_view writer.desk.place ≡ Some writer.desk.shown.value.shown }
     requires settled { drop writer.behind writer.log.items ≡ [] }
@@ -66,7 +66,7 @@ fn show_again<R: Wait>(rt: &R, writer: Copies) -> Copies
     writer
 }
 
-/// Shows a view behind those that are pending.
+/// Shows a view after those that are pending.
 fn show_next<R: Wait>(
     rt: &R,
     mut writer: Copies,
@@ -111,9 +111,9 @@ impl Publisher {
         }
     }
 
-    /// Shows the view instead of the one before, which only those keep who have a share of it. It waits for those that are taking theirs.
+    /// Shows the view in place of the earlier one, which only those keep who have a share of it. It waits for readers who are taking their share.
     ///
-    /// The one error is want of memory. Then readers see what they saw, and the view stays pending: it is passed over by a later switch.
+    /// The only error is lack of memory. Then readers see what they saw, and the view stays pending; a later switch skips it.
     pub fn switch<R: Wait>(&mut self, rt: &R, next: Published) -> Result<(), OutOfMemory>
         requires desk { next.shown.origin ≡ self.old.shown.origin }
         requires begins { IsPrefix self.old.shown.groups next.shown.groups }
@@ -124,7 +124,7 @@ impl Publisher {
         })
     }
 
-    /// Tells what is shown.
+    /// Returns what is shown, as readers can learn it.
     pub fn tell(&self) -> Shown
         ensures { result ≡ self.now.shown }
     {
@@ -133,9 +133,9 @@ impl Publisher {
         }
     }
 
-    /// A reader of this desk, which has seen no group.
+    /// A reader of this desk that has not seen any group.
     ///
-    /// Refused is a place for it that is not found (60), as may happen while readers come and go.
+    /// It fails with 60 if no free place is found, which may happen while readers come and go.
     pub fn reader(&mut self) -> Result<Reader, Refusal>
         ensures same { self.new ≡ self.old }
         ensures reader { IfOk result (λ reader. (reader.origin ≡ self.old.shown.origin) × (reader.groups ≡ [])) }
@@ -156,19 +156,19 @@ impl Publisher {
         })
     }
 
-    /// How many readers there are at this moment. They come and go without the publisher, so a moment later there may be others.
+    /// How many readers there are at this moment. They come and go without the publisher, so a moment later there may be more or fewer.
     pub fn readers(&self) -> u64 {
         self.taken.load(Ordering::SeqCst)
     }
 
-    /// Ends the copy, once its readers have left it. They can't enter it any more.
+    /// Closes the copies, once their readers have left them. Readers can no longer enter.
     pub fn close<R: Wait>(self, rt: &R) {
         let Publisher { writer, taken: _ } = self;
         writer.take(rt);
     }
 }
 
-/// A publisher that is let go without `close` leaks its copies: only `close` may wait for their readers.
+/// A publisher that is dropped without `close` leaks its copies: only `close` may wait for their readers.
 impl Drop for Publisher {
     fn drop(self) {
         let Publisher { writer, taken: _ } = self;

@@ -20,15 +20,15 @@ use std::sync::Arc;
 
 pub(crate) type SeatedReader = reader::Reader<Published, Option<Front>, Shows>;
 
-/// A reader of what is shown. Contracts see it as the groups that it has seen or was told of, with the desk.
+/// A reader of what is shown. Contracts see it as the groups that it has seen or learned of, with the desk.
 #[derive(Drop)]
 pub struct Reader {
     pub(crate) reader: SeatedReader,
-    /// What it has seen. By the rule of the copy this begins what is shown.
+    /// What it has seen. By the rule of the copy, what is shown begins with this.
     pub(crate) seen: Front,
-    /// What it has learned since, where that is longer.
+    /// What it has learned since, if that is longer.
     pub(crate) learned: Option<Front>,
-    /// Its place, as long as it is there.
+    /// Its place, as long as the reader exists.
     pub(crate) _seat: Seat,
 }
 
@@ -64,7 +64,7 @@ fn enter(reader: SeatedReader) -> (SeatedReader, Result<Published, Refusal>)
     }
 }
 
-/// Enters by the seat of a reader that has seen these groups: what is shown begins with them.
+/// Enters through the seat of a reader that has seen these groups: what is shown begins with them.
 fn enter_behind(reader: &mut SeatedReader, seen: &Front) -> Result<Published, Refusal>
     requires { (seat : Beginning) × (seat_view reader.old.place ≡ Some seat) × Follows (Some seen.now) seat }
     ensures seat { (seat : Beginning) × (seat_view reader.new.place ≡ Some seat) × Follows (Some seen.now) seat }
@@ -75,7 +75,7 @@ fn enter_behind(reader: &mut SeatedReader, seen: &Front) -> Result<Published, Re
 }
 
 impl Reader {
-    /// The beginning of the history that it has seen or was told of.
+    /// The front of the history that it has seen or learned of.
     pub fn known(&self) -> &Front
         ensures { result.now ≡ self.now }
     {
@@ -85,10 +85,10 @@ impl Reader {
         }
     }
 
-    /// The view that is shown. The groups after which it stands begin with all that the reader has seen and was told of, and the reader
-    /// has then seen them. It takes no lock and waits for nobody.
+    /// The shown view. The groups after which it is shown begin with everything that the reader has seen and learned of. Afterwards the reader has seen
+    /// them. It takes no lock and waits for nobody.
     ///
-    /// Refused is a share of the view for which there is no room (11), and a copy that can't be entered, as after closing (61).
+    /// It fails with 11 if there is no memory for a share of the view, and with 61 if the copy cannot be entered, as after closing.
     pub fn look(&mut self) -> Result<Arc<View>, Refusal>
         ensures network { IfOk result (λ view. after self.old.origin.base self.new.groups ≡ Some view.value.network) }
         ensures version { IfOk result (λ view. view.value.version ≡ self.old.origin.version + length self.new.groups) }
@@ -108,8 +108,8 @@ impl Reader {
         Ok(view)
     }
 
-    /// Takes in what was shown: the reader knows the longer of both lists of groups, which the other begins. It takes no lock and waits
-    /// for nobody.
+    /// Takes in what was shown: the reader then knows the longer of both lists of groups, which begins with the other. It takes no lock and waits for
+    /// nobody.
     pub fn learn(&mut self, shown: &Shown)
         requires { shown.now.origin ≡ self.old.origin }
         ensures one { (self.new ≡ self.old) ⊎ (self.new ≡ shown.now) }

@@ -52,7 +52,7 @@ impl Outcome<Published, Option<Front>> for Sees {
     ghost then = { λ seen before after now. Follows seen after.shown × (now ≡ Some after.shown) };
 }
 
-/// The writer's seat names the desk to a new reader's, which has seen nothing.
+/// The writer's seat names the desk to a new reader's seat, which has seen nothing.
 pub struct Names;
 
 impl Split<Option<Front>> for Names {

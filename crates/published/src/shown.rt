@@ -3,7 +3,7 @@ ghost use Rattle.std.specs.Prelude.{◌≡◌};
 use history::Front;
 use std::marker::Model;
 
-/// It was shown after these groups. A reader that learns it sees no less.
+/// What was shown after these groups. A reader that learns it then sees no less.
 #[derive(Drop)]
 pub struct Shown {
     pub(crate) groups: Front,
@@ -20,7 +20,7 @@ impl Model for Shown {
 }
 
 impl Shown {
-    /// The beginning of the history after which it was shown.
+    /// The front of the history after which it was shown.
     pub fn groups(&self) -> &Front
         ensures { result.now ≡ self.now }
     {

@@ -7,7 +7,7 @@ use pages::MOST_COMMANDS;
 use roadnet::{Command, Group};
 use std::array::from_fn;
 
-/// The groups of these commands, each alone, in their order; behind them stands the first one again. It takes no memory.
+/// The groups of these commands, one command each, in their order. The array is filled up with the first one. It takes no memory.
 pub fn groups_of(commands: &[Command]) -> [Group; MOST_COMMANDS]
     requires some { 1 ≤ length commands.now }
     requires few { length commands.now ≤ most_commands }

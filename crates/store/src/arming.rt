@@ -23,8 +23,7 @@ impl<D: Stoppable> Paged<D> {
 }
 
 impl<D: Stoppable> Store<D> {
-    /// Arms the disk: its k-th write or sync from now on is cut, and it and each later call fail until the disk is stopped. Nothing else
-    /// is changed.
+    /// Arms the disk: its k-th write or sync from now on is cut. That call and each later one fail until the disk is stopped. Nothing else is changed.
     pub fn arm(&mut self, k: u64)
         requires { 1 ≤ k }
         ensures armed { D.armed self.new.disk ≡ armed_at k (D.armed self.old.disk) }

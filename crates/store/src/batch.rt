@@ -1,4 +1,4 @@
-// Pages that are written one behind the other, many at a time.
+// Pages that are written one after the other, many at a time.
 ghost use Rattle.std.specs.Prelude.{◌≡◌, ◌+◌, ◌*◌, ◌≤◌, ◌<◌, ◌^◌, ◌↔◌, [], ◌++◌, length, take, IfOk, OnOk, OnErr};
 ghost use Rattle.disk.specs.Calling.{Counts};
 ghost use Rattle.store.specs.Created.{Waiting, so_far, IsInStep};
@@ -8,12 +8,12 @@ use pages::{PAGE_SIZE, PAGES_AT_ONCE};
 use std::alloc::{AllocError, Global};
 use std::marker::Model;
 
-/// Pages that wait to be written behind the content of a disk.
+/// Pages that wait to be written after the content of a disk.
 #[derive(Drop)]
 pub struct Batch {
     bytes: Vec<u8>,
     count: usize,
-    /// The number of the page that comes next.
+    /// The number of the next page.
     next: u64,
 }
 
@@ -42,7 +42,7 @@ impl Batch {
         })
     }
 
-    /// Writes the pages that wait. Where that fails they still wait.
+    /// Writes the pages that wait. If that fails, they still wait.
     pub fn flush<D: Disk>(&mut self, disk: &mut D) -> Result<(), DiskError>
         requires few { self.old.next ≤ 2 ^ 32 }
         requires in_step { D.honest disk.old → IsInStep (D.content disk.old) self.old }
@@ -57,7 +57,7 @@ impl Batch {
         Ok(())
     }
 
-    /// Adds a page, and writes the pages that wait once there are 64.
+    /// Adds a page. Once 64 pages wait, writes them.
     pub fn put<D: Disk>(&mut self, disk: &mut D, page: &[u8; PAGE_SIZE]) -> Result<(), DiskError>
         requires few { self.old.next < 2 ^ 32 }
         requires in_step { D.honest disk.old → IsInStep (D.content disk.old) self.old }

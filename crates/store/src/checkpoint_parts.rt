@@ -15,7 +15,7 @@ use disk::Disk;
 use roadnet::Refusal;
 
 impl<D: Disk> Paged<D> {
-    // Whether the store is neither broken nor has a checkpoint going.
+    // Whether the store is not broken and no checkpoint is going.
     pub fn calm(&self) -> bool
         ensures { result ≡ is_calm self.now }
     {
@@ -104,30 +104,30 @@ impl<D: Disk> Paged<D> {
         Ok(Part::Done(going.next.version()))
     }
 
-    // `Store::checkpoint_part`, by its pages.
+    // `Store::checkpoint_part`, over the store's pages.
     pub fn checkpoint_part(&mut self, pages: u32) -> Result<Part, Refusal>
         requires some { 1 ≤ pages }
         requires few { pages ≤ 64 }
-        // Network and version stay, also after a refusal.
+        // Network and version stay, even after a refusal.
         ensures keeps { KeepsDurable self.old self.new }
-        // Where none is going and no page is unchecked, nothing is changed, the disk neither.
+        // If no checkpoint is going and no page is unchecked, nothing is changed, not even on the disk.
         ensures nothing { self.old.broken ≡ false → has_all_checked self.old ≡ true → (result ≡ Ok (Part.Done self.old.version)) × (self.new ≡ self.old) }
-        // Else so many pages more are written, or all are, and only what was committed since is unchecked.
+        // Otherwise this many more pages are written, or all that are left, and only what was committed since is unchecked.
         ensures answers { has_all_checked self.old ≡ false → IfOk result (λ part. part ≡ part_by (parts_of self.old) pages) }
         ensures going { has_all_checked self.old ≡ false → OnOk result (going_of self.new ≡ progress_by (parts_of self.old) pages) }
         ensures unchecked { has_all_checked self.old ≡ false → OnOk result (self.new.unchecked ≡ unchecked_by (parts_of self.old) self.old.unchecked pages) }
-        // Once it is done the other slot is current, with the epoch that follows.
+        // Once it is done, the other slot is current, with the next epoch.
         ensures slot { has_all_checked self.old ≡ false → OnOk result (self.new.slot ≡ slot_by (parts_of self.old) self.old.slot pages) }
         ensures epoch { has_all_checked self.old ≡ false → OnOk result (self.new.epoch ≡ epoch_by (parts_of self.old) self.old.epoch pages) }
         ensures works { OnOk result (self.new.broken ≡ false) }
         ensures refuses { RefusesCheckpoint result self.old self.new }
         ensures tells { TellsFailures result self.old self.new }
-        // After a refusal the checkpoint that went is as far as it was.
+        // After a refusal the checkpoint has come as far as before.
         ensures kept { OnErr result ((told_by self.new ≡ told_by self.old) × (going_of self.new ≡ going_of self.old)) }
-        // A stop at any moment of the call, or after it, leaves what stands for this network and version.
+        // A stop during the call or after it leaves content that stands for this network and version.
         ensures any_moment { self.old.broken ≡ false → LeavesFor self.old self.new }
         ensures left { self.old.broken ≡ false → StaysFor self.old self.new }
-        // After Ok it leaves the content alone, which stands for it, by the fields as they are now.
+        // After Ok a stop leaves only the content, which stands for the same network and version, by the fields as they are now.
         ensures only { D.honest self.old.disk → OnOk result (Only (D.content self.new.disk) (D.left self.new.disk)) }
         ensures stands { KeepsStanding result self.old self.new }
         ensures as_told { KeepsAsTold result self.old self.new }

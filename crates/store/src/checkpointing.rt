@@ -1,4 +1,4 @@
-// All of a checkpoint, or all that is left of the one that is going.
+// A whole checkpoint, or the rest of the one that is going.
 ghost use Rattle.std.specs.Prelude.{◌≡◌, ◌≢◌, ◌+◌, ◌↔◌, true, false, None, Some, Ok, IfOk, OnOk, OnErr, IfErr, IsSome};
 ghost use Rattle.disk.specs.Contents.{Only};
 ghost use Rattle.roadnet.specs.declared.refusals.Refusal.TheVariants.{Device as device};
@@ -12,7 +12,7 @@ use pages::PAGES_AT_ONCE;
 use roadnet::Refusal;
 
 impl<D: Disk> Paged<D> {
-    // All that is left of the checkpoint that is going.
+    // The rest of the checkpoint that is going.
     fn complete_checkpoint(&mut self) -> Result<u64, Refusal>
         requires works { self.old.broken ≡ false }
         requires going { IsSome self.old.going }
@@ -51,26 +51,26 @@ impl<D: Disk> Paged<D> {
         Ok(going.next.version())
     }
 
-    // `Store::checkpoint`, by its pages.
+    // `Store::checkpoint`, over the store's pages.
     pub fn checkpoint(&mut self) -> Result<u64, Refusal>
-        // Network and version stay, also after a refusal.
+        // Network and version stay, even after a refusal.
         ensures keeps { KeepsDurable self.old self.new }
-        // Where none is going and no page is unchecked, nothing is changed, the disk neither.
+        // If no checkpoint is going and no page is unchecked, nothing is changed, not even on the disk.
         ensures nothing { self.old.broken ≡ false → has_all_checked self.old ≡ true → (result ≡ Ok self.old.version) × (self.new ≡ self.old) }
         ensures answers { IfOk result (λ version. version ≡ (parts_of self.old).version) }
         ensures going { OnOk result (going_of self.new ≡ None) }
         ensures unchecked { OnOk result (self.new.unchecked ≡ (parts_of self.old).committed) }
         ensures works { OnOk result (self.new.broken ≡ false) }
-        // Else the other slot is current at Ok, with the epoch that follows.
+        // Otherwise, at Ok, the other slot is current, with the next epoch.
         ensures slot { has_all_checked self.old ≡ false → OnOk result (self.new.slot ≡ other self.old.slot) }
         ensures epoch { has_all_checked self.old ≡ false → OnOk result (self.new.epoch ≡ self.old.epoch + 1) }
         ensures refuses { RefusesCheckpoint result self.old self.new }
         ensures tells { TellsFailures result self.old self.new }
         ensures kept { OnErr result ((told_by self.new ≡ told_by self.old) × (going_of self.new ≡ going_of self.old)) }
-        // A stop at any moment of the call, or after it, leaves what stands for this network and version.
+        // A stop during the call or after it leaves content that stands for this network and version.
         ensures any_moment { self.old.broken ≡ false → LeavesFor self.old self.new }
         ensures left { self.old.broken ≡ false → StaysFor self.old self.new }
-        // After Ok it leaves the content alone, which stands for it, by the fields as they are now.
+        // After Ok a stop leaves only the content, which stands for the same network and version, by the fields as they are now.
         ensures only { D.honest self.old.disk → OnOk result (Only (D.content self.new.disk) (D.left self.new.disk)) }
         ensures stands { KeepsStanding result self.old self.new }
         ensures as_told { KeepsAsTold result self.old self.new }

@@ -29,31 +29,31 @@ fn none_is_empty(groups: &[Group])
 }
 
 impl<D: Disk> Paged<D> {
-    // `Store::commit_groups`, by its pages.
+    // `Store::commit_groups`, over the store's pages.
     pub fn commit_groups(&mut self, groups: &[Group]) -> Result<u64, Refusal>
         requires some { 1 ≤ length groups.now }
         requires few { count_of groups.now ≤ most_commands }
-        // At Ok the groups are carried out, each counted, and one page more is unchecked.
+        // At Ok the groups are carried out, each counts one version, and there is one more unchecked page.
         ensures version { IfOk result (λ version. (version ≡ self.new.version) × (version ≡ self.old.version + length groups.now)) }
         ensures network { OnOk result (after self.old.network groups.now ≡ Some self.new.network) }
         ensures unchecked { OnOk result (self.new.unchecked ≡ self.old.unchecked + 1) }
         ensures next { OnOk result (self.new.next_sequence ≡ self.old.next_sequence + 1) }
         ensures works { OnOk result (self.new.broken ≡ false) }
-        // A checkpoint that is going goes on, and counts the page.
+        // A checkpoint that is going continues, and counts the page.
         ensures going { OnOk result (going_of self.new ≡ option_map with_page_committed (going_of self.old)) }
         ensures same_going { OnErr result (going_of self.new ≡ going_of self.old) }
         ensures header { self.new.header ≡ self.old.header }
         ensures slot { self.new.slot ≡ self.old.slot }
         ensures epoch { self.new.epoch ≡ self.old.epoch }
-        // It refuses exactly where there is a cause; and where there is none, for want of memory, or where the disk failed in this call.
+        // It refuses if there is a cause. If there is none, it may refuse only for lack of memory, or because the disk failed in this call.
         ensures refused { RefusesCommit (commit_refusal_by self.old groups.now) result }
         ensures same { IfErr result (λ refusal. refusal ≢ device → self.new ≡ self.old) }
         ensures tells { TellsFailures result self.old self.new }
         ensures kept { OnErr result (KeepsNumbers self.old self.new) }
         ensures adds_nothing { self.old.broken ≡ true → AddsNothing D.moment D.left_since self.old.disk self.new.disk }
-        // A stop at any moment of the call leaves what stands for the network before the groups, or after them.
+        // A stop during the call leaves content that stands for the network before the groups, or after them.
         ensures any_moment { self.old.broken ≡ false → LeavesForOrAfter groups.now self.old self.new }
-        // So does one after the call; and after Ok, what stands for the network after them.
+        // So does a stop after the call; and after Ok, what it leaves stands for the network after them.
         ensures in_flight { self.old.broken ≡ false → StaysForOrAfter groups.now self.old self.new }
         ensures durable { D.honest self.old.disk → AreTidyPages self.old → OnOk result ((c : List ℕ) → D.left self.new.disk c → IsFor self.new c) }
         ensures only { D.honest self.old.disk → OnOk result (Only (D.content self.new.disk) (D.left self.new.disk)) }

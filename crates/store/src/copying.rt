@@ -1,4 +1,4 @@
-// A store made of another one: a copy, with its room and journal or with others.
+// A store made from another one: a copy, with its room and journal or with others.
 ghost use Rattle.std.specs.Prelude.{◌≡◌, ◌≢◌, ◌⊎◌, ◌≤◌, ◌↔◌, List, ℕ, [], false, None, IfOk, IfErr, OnOk, length};
 ghost use Rattle.std.specs.Option.{ForSome};
 ghost use Rattle.roadnet.specs.declared.refusals.Refusal.TheVariants.{Device as device};
@@ -20,7 +20,7 @@ use pages::Format;
 use roadnet::Refusal;
 use std::alloc::Global;
 
-/// Makes a store as `copy` does, of one of this format on the disk `old`.
+/// Makes a store as `copy` does, from one of this format on the disk `old`.
 pub fn copy_in<O: Disk, D: Disk>(
     alloc: Global,
     old: &mut O,
@@ -30,8 +30,8 @@ pub fn copy_in<O: Disk, D: Disk>(
     journal: Option<u32>,
 ) -> Result<Store<D>, (Refusal, D)>
     requires journal { ForSome journal (λ pages. (1 ≤ pages) × (pages ≤ 65536)) }
-    // The old content stands, in this format, for the network at this version, but for its room; each content that a stop may leave of the new
-    // disk stands, tidy, for the network with its room at that version.
+    // The old content stands, in this format, for the network at this version, its room apart. Each content that a stop may leave on the new disk stands,
+    // tidy, for the network with its room at that version.
     ensures copied { O.honest old.old → IfOk result (λ store. IsCopyIn format (O.content old.old) store.network store.version store.journal_pages room journal) }
     ensures stands { D.honest new → IfOk result (λ store. IsDurable store (D.content store.disk)) }
     // The file is that of a new store, made on an empty disk: its journal begins with page 0.
@@ -48,13 +48,13 @@ pub fn copy_in<O: Disk, D: Disk>(
     ensures none_going { IfOk result (λ store. store.going ≡ None) }
     ensures none_in_flight { IfOk result (λ store. store.in_flight ≡ []) }
     ensures given { IfOk result (λ store. store.given ≡ store.disk) }
-    // Each refusal rests on one disk: 46 on the new one, which is empty at each other but 43; 40 to 42, 9 and 11 on the old one.
+    // Each refusal depends on one disk: 46 on the new one, which is empty at every other refusal except 43; 40 to 42, 9 and 11 on the old one.
     ensures refused_for_new { D.honest new → IfErr result (λ refused. IsRefusedForNew (D.content new) refused.0) }
     ensures refused_for_old { O.honest old.old → IfErr result (λ refused. IsRefusedForOld format (O.content old.old) room refused.0) }
     ensures causes { IfErr result (λ refused. MayEndCopying refused.0) }
-    // Where 43 is told, one call of one of the disks has failed; and else none.
+    // If 43 is reported, one call of one of the disks has failed; otherwise none has.
     ensures counted { CountsCopy O.failures D.failures old.old old.new new result }
-    // The old store is untouched; at each refusal but 43 the new disk is too.
+    // The old store is untouched. At each refusal except 43 the new disk is untouched too.
     ensures untouched { O.honest old.old → StaysSame O.content O.left O.moment O.left_since old.old old.new }
     ensures same { D.honest new → IfErr result (λ refused. refused.0 ≢ device → StaysSame D.content D.left D.moment D.left_since new refused.1) }
     ensures honest { O.honest old.new ↔ O.honest old.old }
@@ -88,16 +88,16 @@ pub fn copy_in<O: Disk, D: Disk>(
     create_at(alloc, new, &network, version, journal_pages)
 }
 
-/// Makes a store, on the empty disk `new`, of the network for which the store on the disk `old` stands, at its version, with room for so many arcs
-/// and with so many journal pages, 1 to 65,536; where one of the two is not given, with as many as the old store has.
+/// Makes a store on the empty disk `new`, of the network for which the store on the disk `old` stands, at its version, with room for so many arcs and with
+/// so many journal pages, 1 to 65,536. If one of the two is not given, it is that of the old store.
 ///
-/// Refused, the first that holds, is a new disk that is not empty (46); what opening refuses of the old store (40, 41, 42); a room below the
-/// number of arcs or above 67,108,864 (9); then want of memory (11). 43 comes at each call of either disk. The new disk is handed back
-/// then. The old one is read alone: its content stays, and what a stop may leave of it.
+/// It is refused, in this order, if the new disk is not empty (46), if opening refuses the old store (40, 41, 42), if the room is below the number of arcs
+/// or above 67,108,864 (9), or for lack of memory (11). 43 may come at each call of either disk. Then the new disk is handed back. The old one is only
+/// read: its content stays, and so does what a stop may leave of it.
 ///
 /// It takes the memory of opening the old store, a copy of its network, and 64 pages.
 ///
-/// Of a store of `examples/six.gr` behind `close 7` it makes one of version 1; with room for 10 arcs and 2 journal pages, a file of 10 pages.
+/// From a store of `examples/six.gr` after `close 7` it makes one of version 1; with room for 10 arcs and 2 journal pages, a file of 10 pages.
 pub fn copy<O: Disk, D: Disk>(
     alloc: Global,
     old: &mut O,
@@ -106,8 +106,8 @@ pub fn copy<O: Disk, D: Disk>(
     journal: Option<u32>,
 ) -> Result<Store<D>, (Refusal, D)>
     requires journal { ForSome journal (λ pages. (1 ≤ pages) × (pages ≤ 65536)) }
-    // The old content stands for the network at this version, but for its room; each content that a stop may leave of the new disk stands, tidy, for
-    // the network with its room at that version.
+    // The old content stands for the network at this version, its room apart. Each content that a stop may leave on the new disk stands, tidy, for the
+    // network with its room at that version.
     ensures copied { O.honest old.old → IfOk result (λ store. IsCopy (O.content old.old) store.network store.version store.journal_pages room journal) }
     ensures stands { D.honest new → IfOk result (λ store. IsDurable store (D.content store.disk)) }
     // The file is that of a new store, made on an empty disk: its journal begins with page 0.
@@ -124,13 +124,13 @@ pub fn copy<O: Disk, D: Disk>(
     ensures none_going { IfOk result (λ store. store.going ≡ None) }
     ensures none_in_flight { IfOk result (λ store. store.in_flight ≡ []) }
     ensures given { IfOk result (λ store. store.given ≡ store.disk) }
-    // Each refusal rests on one disk: 46 on the new one, which is empty at each other but 43; 40 to 42, 9 and 11 on the old one.
+    // Each refusal depends on one disk: 46 on the new one, which is empty at every other refusal except 43; 40 to 42, 9 and 11 on the old one.
     ensures refused_for_new { D.honest new → IfErr result (λ refused. IsRefusedForNew (D.content new) refused.0) }
     ensures refused_for_old { O.honest old.old → IfErr result (λ refused. IsRefusedForOld two (O.content old.old) room refused.0) }
     ensures causes { IfErr result (λ refused. MayEndCopying refused.0) }
-    // Where 43 is told, one call of one of the disks has failed; and else none.
+    // If 43 is reported, one call of one of the disks has failed; otherwise none has.
     ensures counted { CountsCopy O.failures D.failures old.old old.new new result }
-    // The old store is untouched; at each refusal but 43 the new disk is too.
+    // The old store is untouched. At each refusal except 43 the new disk is untouched too.
     ensures untouched { O.honest old.old → StaysSame O.content O.left O.moment O.left_since old.old old.new }
     ensures same { D.honest new → IfErr result (λ refused. refused.0 ≢ device → StaysSame D.content D.left D.moment D.left_since new refused.1) }
     ensures honest { O.honest old.new ↔ O.honest old.old }

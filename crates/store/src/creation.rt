@@ -80,7 +80,7 @@ fn put_blank<D: Disk>(disk: &mut D, batch: &mut Batch, count: u64) -> Result<(),
     Ok(())
 }
 
-/// Writes all pages of a new store to an empty disk, their gates closed.
+/// Writes all pages of a new store to an empty disk, with their gates closed.
 fn lay_out<D: Disk>(
     disk: &mut D,
     batch: &mut Batch,
@@ -114,7 +114,7 @@ fn lay_out<D: Disk>(
     batch.flush(disk)
 }
 
-/// Opens the gate of slot A and then that of the header, with a sync before and behind each.
+/// Opens the gate of slot A and then that of the header, with a sync before and after each.
 fn open_gates<D: Disk>(disk: &mut D, header: &Header) -> Result<(), DiskError>
     requires file { HasFileOf D.Disk header.now disk.old }
     ensures opened { D.honest disk.old → OnOk result (D.content disk.new ≡ with_both_gates header.now (D.content disk.old)) }
@@ -146,9 +146,10 @@ pub fn create_paged<D: Disk>(
     ensures slot { IfOk result (λ store. (store.slot ≡ slot_a) × (store.epoch ≡ 1)) }
     ensures works { IfOk result (λ store. store.broken ≡ false) }
     ensures none_going { IfOk result (λ store. going_of store ≡ None) }
-    // The content stands for the network at this version, is tidy, has so many journal pages and a slot for the network's room, and is all that a stop may leave.
+    // The content stands for the network at this version and is tidy. It has this many journal pages and slots for the network's room, and a stop may leave
+    // nothing else.
     ensures stands { D.honest disk → IfOk result (λ store. IsNewFor journal_pages network.now version (D.content store.disk)) }
-    // The file is that of a new store: its arcs are there from the beginning, and its journal begins with page 0.
+    // The file is that of a new store: it has all its arcs from the beginning, and its journal begins with page 0.
     ensures made { D.honest disk → IfOk result (λ store. IsNewFile journal_pages network.now version (D.content store.disk)) }
     ensures only { D.honest disk → IfOk result (λ store. Only (D.content store.disk) (D.left store.disk)) }
     ensures tidy { D.honest disk → IfOk result (λ store. IsTidyAt (D.content store.disk) store.header store.next_sequence) }
@@ -157,7 +158,7 @@ pub fn create_paged<D: Disk>(
     ensures refused { IfErr result (λ refused. (refused.0 ≡ not_empty) ⊎ ((refused.0 ≡ device) ⊎ (refused.0 ≡ out_of_memory))) }
     ensures not_empty { D.honest disk → IfErr result (λ refused. refused.0 ≡ not_empty → D.content disk ≢ []) }
     ensures order { D.honest disk → IfErr result (λ refused. refused.0 ≡ out_of_memory → D.content disk ≡ []) }
-    // The count of failures rises by one where 43 is told, and else not at all.
+    // The count of failures rises by one if 43 is reported, and otherwise not at all.
     ensures counted { MatchResult result (λ store. D.failures store.disk ≡ D.failures disk) (IsCountedBy D.failures disk) }
     ensures failed { IfErr result (λ refused. refused.0 ≡ device → Rose (D.failures disk) (D.failures refused.1)) }
     ensures same { D.honest disk → IfErr result (λ refused. refused.0 ≢ device → StaysSame D.content D.left D.moment D.left_since disk refused.1) }

@@ -1,4 +1,4 @@
-// A checkpoint that goes part by part.
+// A checkpoint that is made part by part.
 ghost use Rattle.std.specs.Prelude.{◌≡◌, ◌+◌, ◌<◌, ◌^◌, IfSome, option_map};
 ghost use Rattle.store.specs.Going.{with_one_more};
 
@@ -8,7 +8,7 @@ use roadnet::Network;
 /// A checkpoint that is going.
 #[derive(Drop)]
 pub struct GoingCheckpoint {
-    /// What of it is written.
+    /// What is written of it.
     pub next: NextCheckpoint,
     /// The durable network, as it was when the checkpoint began.
     pub frozen: Network,
@@ -16,7 +16,7 @@ pub struct GoingCheckpoint {
     pub committed: u32,
 }
 
-// One page of the journal more was committed.
+// One more page of the journal was committed.
 pub fn count_page(going: &mut Option<GoingCheckpoint>)
     requires { IfSome going.old (λ g. g.committed + 1 < 2 ^ 32) }
     ensures { going.new ≡ option_map with_one_more going.old }

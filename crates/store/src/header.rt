@@ -36,7 +36,7 @@ fn begins_as_store(page: &[u8; PAGE_SIZE], length: u64) -> bool
     is_open(page)
 }
 
-// The header of a file of this format and this length, whose first page is this.
+// The header of a file of this format and length, whose first page is this one.
 fn judge_header(page: &[u8; PAGE_SIZE], length: u64, format: Format) -> Result<Header, Refusal>
     ensures header { header_from format length page.now ≡ result }
     ensures fits { IfOk result IsHeader }
@@ -60,7 +60,7 @@ fn judge_header(page: &[u8; PAGE_SIZE], length: u64, format: Format) -> Result<H
     Ok(header)
 }
 
-/// The header of the store of this format on the disk, whose sizes are those of the file. Nothing is changed, and no memory is asked for.
+/// The header of the store of this format on the disk, with the sizes of the file. It changes nothing and takes no memory.
 pub fn read_header<D: Disk>(disk: &mut D, format: Format) -> Result<Header, Refusal>
     ensures header { D.honest disk.old → IfOk result (λ header. header_from format (length (D.content disk.old)) (page (D.content disk.old) 0) ≡ Ok header) }
     ensures fits { IfOk result IsHeader }

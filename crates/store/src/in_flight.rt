@@ -1,4 +1,4 @@
-//! The groups of a commit that failed, for clauses alone.
+//! The groups of a commit that failed. Only clauses use them.
 ghost use Rattle.std.specs.Prelude.{◌≡◌, List, [], Err, if◌then◌else◌};
 ghost use Rattle.std.specs.Bool.{Decides};
 ghost use Rattle.std.specs.Borrow.{ftrue};
@@ -8,7 +8,7 @@ ghost use Rattle.roadnet.specs.declared.refusals.Refusal.TheVariants.{Device as 
 use roadnet::{Group, Refusal};
 use std::marker::Model;
 
-/// Whether the disk failed in a call that told this.
+/// Whether the disk failed in a call with this result.
 pub(crate) fn has_failed<T>(told: &Result<T, Refusal>) -> bool
     ensures { Decides result (told.now ≡ Err device) }
 {
@@ -23,7 +23,7 @@ pub(crate) struct Made<'a> {
     pub(crate) failed: bool,
 }
 
-/// The groups in flight. It takes no bytes, and its methods do nothing at run time.
+/// The groups in flight. They take no bytes, and their methods do nothing at run time.
 #[derive(Drop)]
 pub(crate) struct InFlight {
     pub ghost groups: { List (List AnyCommand) },
@@ -34,14 +34,14 @@ impl Model for InFlight {
 }
 
 impl InFlight {
-    /// None.
+    /// No groups.
     pub(crate) fn none() -> InFlight
         ensures { result.groups ≡ [] }
     {
         InFlight {}
     }
 
-    /// Those after this commit: its groups where the disk failed in it, and else those that were in flight.
+    /// The groups in flight after this commit: its groups if the disk failed in it, otherwise those that were in flight.
     pub(crate) fn after(&self, _made: &Made<'_>) -> InFlight
         ensures { result.groups ≡ (if _made.now.failed then _made.now.groups.now else self.now.groups) }
     {

@@ -1,4 +1,4 @@
-// A store made on an empty disk, and one that is opened.
+// A store made on an empty disk, and a store that is opened.
 ghost use Rattle.std.specs.Prelude.{◌≡◌, ◌≢◌, ◌⊎◌, ◌≤◌, ◌↔◌, List, ℕ, [], length, false, None, IfOk, IfErr, MatchResult};
 ghost use Rattle.roadnet.specs.declared.refusals.Refusal.TheVariants.{OutOfMemory as out_of_memory, Device as device, NotEmpty as not_empty};
 ghost use Rattle.disk.specs.Contents.{Only, Rose};
@@ -21,8 +21,8 @@ use std::snapshot::Snapshot;
 
 /// Makes a store of the network at this version, at most 2^48, with so many journal pages, 1 to 65,536.
 ///
-/// It answers 46 where the disk is not empty, 43 where it fails, and 11. The disk is handed back then, at 46 and 11 with its content as it
-/// was. It takes linear time, and memory for a copy of the network and 64 pages.
+/// It is refused with 46 if the disk is not empty, with 43 if the disk fails, and with 11 for lack of memory. Then the disk is handed back, at 46 and 11
+/// with its content as it was. It takes linear time, and memory for a copy of the network and 64 pages.
 pub fn create_at<D: Disk>(
     alloc: Global,
     disk: D,
@@ -44,9 +44,10 @@ pub fn create_at<D: Disk>(
     ensures none_going { IfOk result (λ store. store.going ≡ None) }
     ensures none_in_flight { IfOk result (λ store. store.in_flight ≡ []) }
     ensures given { IfOk result (λ store. store.given ≡ store.disk) }
-    // The content stands for the network at this version, is tidy, has so many journal pages and a slot for the network's room, and is all that a stop may leave.
+    // The content stands for the network at this version and is tidy. It has this many journal pages and slots for the network's room, and a stop may leave
+    // nothing else.
     ensures stands { D.honest disk → IfOk result (λ store. IsNewFor journal_pages network.now version (D.content store.disk)) }
-    // The file is that of a new store: its arcs are there from the beginning, and its journal begins with page 0.
+    // The file is that of a new store: it has all its arcs from the beginning, and its journal begins with page 0.
     ensures made { D.honest disk → IfOk result (λ store. IsNewFile journal_pages network.now version (D.content store.disk)) }
     ensures only { D.honest disk → IfOk result (λ store. Only (D.content store.disk) (D.left store.disk)) }
     ensures tidy { D.honest disk → IfOk result (λ store. IsTidy (D.content store.disk)) }
@@ -55,7 +56,7 @@ pub fn create_at<D: Disk>(
     ensures refused { IfErr result (λ refused. (refused.0 ≡ not_empty) ⊎ ((refused.0 ≡ device) ⊎ (refused.0 ≡ out_of_memory))) }
     ensures not_empty { D.honest disk → IfErr result (λ refused. refused.0 ≡ not_empty → D.content disk ≢ []) }
     ensures order { D.honest disk → IfErr result (λ refused. refused.0 ≡ out_of_memory → D.content disk ≡ []) }
-    // The count of failures rises by one where 43 is told, and else not at all.
+    // The count of failures rises by one if 43 is reported, and otherwise not at all.
     ensures counted { MatchResult result (λ store. D.failures store.disk ≡ D.failures disk) (IsCountedBy D.failures disk) }
     ensures failed { IfErr result (λ refused. refused.0 ≡ device → Rose (D.failures disk) (D.failures refused.1)) }
     ensures same { D.honest disk → IfErr result (λ refused. refused.0 ≢ device → StaysSame D.content D.left D.moment D.left_since disk refused.1) }
@@ -71,13 +72,13 @@ pub fn create_at<D: Disk>(
     })
 }
 
-/// Makes a store of the network with so many journal pages, 1 to 65,536, at version 0, as `create_at` does at any.
+/// Makes a store of the network with so many journal pages, 1 to 65,536, at version 0, as `create_at` does at any version.
 ///
-/// It answers 46 where the disk is not empty, 43 where it fails, and 11. The disk is handed back then, at 46 and 11 with its content as it
-/// was. It takes linear time, and memory for a copy of the network and 64 pages.
+/// It is refused with 46 if the disk is not empty, with 43 if the disk fails, and with 11 for lack of memory. Then the disk is handed back, at 46 and 11
+/// with its content as it was. It takes linear time, and memory for a copy of the network and 64 pages.
 ///
-/// With 64 journal pages, the store of `examples/six.gr` is a file of 70 pages: the header, one page of arcs, two slots of a head and
-/// one page of words, and the journal. With room for 10 arcs each slot has a page of ends besides, and there are 72 pages.
+/// With 64 journal pages, the store of `examples/six.gr` is a file of 70 pages: the header, one page of arcs, two slots with a head and one page of words
+/// each, and the journal. With room for 10 arcs each slot also has a page of ends, and there are 72 pages.
 pub fn create<D: Disk>(
     alloc: Global,
     disk: D,
@@ -97,9 +98,10 @@ pub fn create<D: Disk>(
     ensures none_going { IfOk result (λ store. store.going ≡ None) }
     ensures none_in_flight { IfOk result (λ store. store.in_flight ≡ []) }
     ensures given { IfOk result (λ store. store.given ≡ store.disk) }
-    // The content stands for the network at version 0, is tidy, has so many journal pages and a slot for the network's room, and is all that a stop may leave.
+    // The content stands for the network at version 0 and is tidy. It has this many journal pages and slots for the network's room, and a stop may leave
+    // nothing else.
     ensures stands { D.honest disk → IfOk result (λ store. IsNewFor journal_pages network.now 0 (D.content store.disk)) }
-    // The file is that of a new store: its arcs are there from the beginning, and its journal begins with page 0.
+    // The file is that of a new store: it has all its arcs from the beginning, and its journal begins with page 0.
     ensures made { D.honest disk → IfOk result (λ store. IsNewFile journal_pages network.now 0 (D.content store.disk)) }
     ensures only { D.honest disk → IfOk result (λ store. Only (D.content store.disk) (D.left store.disk)) }
     ensures tidy { D.honest disk → IfOk result (λ store. IsTidy (D.content store.disk)) }
@@ -108,7 +110,7 @@ pub fn create<D: Disk>(
     ensures refused { IfErr result (λ refused. (refused.0 ≡ not_empty) ⊎ ((refused.0 ≡ device) ⊎ (refused.0 ≡ out_of_memory))) }
     ensures not_empty { D.honest disk → IfErr result (λ refused. refused.0 ≡ not_empty → D.content disk ≢ []) }
     ensures order { D.honest disk → IfErr result (λ refused. refused.0 ≡ out_of_memory → D.content disk ≡ []) }
-    // The count of failures rises by one where 43 is told, and else not at all.
+    // The count of failures rises by one if 43 is reported, and otherwise not at all.
     ensures counted { MatchResult result (λ store. D.failures store.disk ≡ D.failures disk) (IsCountedBy D.failures disk) }
     ensures failed { IfErr result (λ refused. refused.0 ≡ device → Rose (D.failures disk) (D.failures refused.1)) }
     ensures same { D.honest disk → IfErr result (λ refused. refused.0 ≢ device → StaysSame D.content D.left D.moment D.left_since disk refused.1) }
@@ -117,16 +119,16 @@ pub fn create<D: Disk>(
     create_at(alloc, disk, network, 0, journal_pages)
 }
 
-/// Opens the store on a disk. It syncs, and then judges and reads the whole file in the order of the format; nothing is written. The first
-/// refusal ends it, and hands the disk back: no store (40), another format (41), a page that is damaged (42), at each step that the disk
-/// failed (43), and behind the header that no memory was given (11).
+/// Opens the store on a disk. It syncs, and then judges and reads the whole file in the order of the format. It writes nothing. The first refusal ends it,
+/// and hands the disk back: the file is not a store (40), it has another format (41), or a page is damaged (42). At each step the disk may fail (43). After
+/// the header there may be no memory (11).
 ///
-/// It takes a pass over the arc pages and the current slot, the network, and 256 KiB for pages.
+/// It takes one pass over the arc pages and the current slot, the network, and 256 KiB for pages.
 ///
-/// Of the 70 pages of `examples/six.gr`, with another first byte it answers `NotAStore`, with another number of the format `WrongFormat`, and
-/// cut to 69 pages `Damaged { page: 0 }`.
+/// Of the 70 pages of `examples/six.gr`: with another first byte it is refused with `NotAStore`, with another number of the format with `WrongFormat`, and
+/// cut to 69 pages with `Damaged { page: 0 }`.
 pub fn open<D: Disk>(alloc: Global, disk: D) -> Result<Store<D>, (Refusal, D)>
-    // The content stands for what the store tells, and is all that a stop may leave.
+    // The content stands for the store's network and version, and a stop may leave nothing else.
     ensures stands { D.honest disk → IfOk result (λ store. HasVersion (D.content disk) store.network store.version) }
     ensures told { D.honest disk → IfOk result (λ store. HasTold (D.content disk) (told store)) }
     ensures at_rest { D.honest disk → IfOk result (λ store. Only (D.content store.disk) (D.left store.disk)) }
@@ -134,14 +136,14 @@ pub fn open<D: Disk>(alloc: Global, disk: D) -> Result<Store<D>, (Refusal, D)>
     ensures none_going { IfOk result (λ store. store.going ≡ None) }
     ensures none_in_flight { IfOk result (λ store. store.in_flight ≡ []) }
     ensures given { IfOk result (λ store. store.given ≡ store.disk) }
-    // Nothing is written, and what a stop may leave is no more than it was.
+    // Nothing is written, and a stop may leave no more than before.
     ensures same { D.honest disk → IfOk result (λ store. StaysSame D.content D.left D.moment D.left_since disk store.disk) }
     ensures handed_back { D.honest disk → IfErr result (λ refused. StaysSame D.content D.left D.moment D.left_since disk refused.1) }
-    // It refuses what the format refuses. Other refusals come for want of memory, or where the disk failed in this call.
+    // It refuses what the format refuses. Its other refusals are for lack of memory, or because the disk failed in this call.
     ensures judged { D.honest disk → IfErr result (λ refused. MayRefuseToOpen (D.content disk) refused.0) }
-    // Want of memory is told only where the header fits the file.
+    // Lack of memory is reported only if the header fits the file.
     ensures order { D.honest disk → IfErr result (λ refused. refused.0 ≡ out_of_memory → HeaderFits (D.content disk)) }
-    // Whatever the disk, it refuses with 11 or 40 to 43. Its count of failures rises by one where 43 is told, and else not at all.
+    // Whatever the disk, it refuses with 11 or 40 to 43. Its count of failures rises by one if 43 is reported, and otherwise not at all.
     ensures causes { IfErr result (λ refused. MayEndOpening refused.0) }
     ensures counted { MatchResult result (λ store. D.failures store.disk ≡ D.failures disk) (IsCountedBy D.failures disk) }
     ensures failed { IfErr result (λ refused. refused.0 ≡ device → Rose (D.failures disk) (D.failures refused.1)) }

@@ -25,7 +25,7 @@ use pages::{Format, Header, Slot};
 use roadnet::Refusal;
 use std::alloc::Global;
 
-// The current slot and what it holds: the arc pages, the choice of the slot, its head and its word pages are judged in this order.
+// The current slot and what it holds. The arc pages, the choice of the slot, its head and its word pages are judged in this order.
 fn read_current<D: Disk>(
     alloc: Global,
     disk: &mut D,
@@ -46,7 +46,7 @@ fn read_current<D: Disk>(
     Ok((slot, checkpoint))
 }
 
-// The journal behind a checkpoint: which of its pages are unchecked, and then what they hold.
+// The journal after a checkpoint: which of its pages are unchecked, and then what they hold.
 fn read_journal<D: Disk>(
     alloc: Global,
     disk: &mut D,
@@ -92,7 +92,7 @@ fn read_journal<D: Disk>(
     })
 }
 
-// The same of a file with this header.
+// The slot and the journal of a file with this header.
 fn read_slot_and_journal<D: Disk>(
     alloc: Global,
     disk: &mut D,
@@ -109,7 +109,7 @@ fn read_slot_and_journal<D: Disk>(
     read_journal(alloc, disk, header, slot, checkpoint)
 }
 
-// The same of a file of this format that is synced.
+// The fields of the store in a file of this format that is synced.
 fn read_synced<D: Disk>(alloc: Global, disk: &mut D, format: Format) -> Result<Found, Refusal>
     ensures standing { D.honest disk.old → IfOk result (λ found. standing_in (opened_in format (D.content disk.old)) ≡ Some (standing_by found)) }
     ensures format { IfOk result (λ found. found.header.format ≡ format) }
@@ -122,8 +122,8 @@ fn read_synced<D: Disk>(alloc: Global, disk: &mut D, format: Format) -> Result<F
     read_slot_and_journal(alloc, disk, &header)
 }
 
-/// Syncs, and then judges and reads the whole file of this format, in its order. Nothing is written. The first refusal ends it: no store (40),
-/// another format (41), a damaged page (42). That the disk failed (43) may come at each step, that no memory was given (11) behind the header.
+/// Syncs, and then judges and reads the whole file of this format, in its order. It writes nothing. The first refusal ends it: the file is not a store
+/// (40), it has another format (41), or a page is damaged (42). At each step the disk may fail (43). After the header there may be no memory (11).
 pub fn find<D: Disk>(alloc: Global, disk: &mut D, format: Format) -> Result<Found, Refusal>
     ensures standing { D.honest disk.old → IfOk result (λ found. standing_in (opened_in format (D.content disk.old)) ≡ Some (standing_by found)) }
     ensures format { IfOk result (λ found. found.header.format ≡ format) }
@@ -141,20 +141,20 @@ pub fn find<D: Disk>(alloc: Global, disk: &mut D, format: Format) -> Result<Foun
 
 /// The pages of the store on a disk, as `open` finds them.
 pub fn open_paged<D: Disk>(alloc: Global, disk: D) -> Result<Paged<D>, (Refusal, D)>
-    // The content stands for what the store tells, and is all that a stop may leave.
+    // The content stands for the store's network and version, and a stop may leave nothing else.
     ensures stands { D.honest disk → IfOk result (λ store. StandsFor (D.content disk) store.network store.version store.next_sequence) }
     ensures standing { D.honest disk → IfOk result (λ store. standing_of (D.content disk) ≡ Some (told_by store)) }
     ensures at_rest { D.honest disk → IfOk result (λ store. Only (D.content store.disk) (D.left store.disk)) }
     ensures works { IfOk result (λ store. store.broken ≡ false) }
     ensures none_going { IfOk result (λ store. going_of store ≡ None) }
-    // Nothing is written, and what a stop may leave is no more than it was.
+    // Nothing is written, and a stop may leave no more than before.
     ensures same { D.honest disk → IfOk result (λ store. StaysSame D.content D.left D.moment D.left_since disk store.disk) }
     ensures handed_back { D.honest disk → IfErr result (λ refused. StaysSame D.content D.left D.moment D.left_since disk refused.1) }
-    // It refuses what the format refuses. Other refusals come for want of memory, or where the disk failed in this call.
+    // It refuses what the format refuses. Its other refusals are for lack of memory, or because the disk failed in this call.
     ensures judged { D.honest disk → IfErr result (λ refused. MayRefuseToOpen (D.content disk) refused.0) }
-    // Want of memory is told only where the header fits the file.
+    // Lack of memory is reported only if the header fits the file.
     ensures order { D.honest disk → IfErr result (λ refused. refused.0 ≡ out_of_memory → HeaderFits (D.content disk)) }
-    // Whatever the disk, it refuses with 11 or 40 to 43. Its count of failures rises by one where 43 is told, and else not at all.
+    // Whatever the disk, it refuses with 11 or 40 to 43. Its count of failures rises by one if 43 is reported, and otherwise not at all.
     ensures causes { IfErr result (λ refused. MayEndOpening refused.0) }
     ensures counted { MatchResult result (λ store. D.failures store.disk ≡ D.failures disk) (IsCountedBy D.failures disk) }
     ensures failed { IfErr result (λ refused. refused.0 ≡ device → Rose (D.failures disk) (D.failures refused.1)) }

@@ -19,14 +19,14 @@ pub struct Paged<D: Disk> {
     pub(crate) header: Header,
     pub(crate) network: Network,
     pub(crate) version: u64,
-    /// The slot that is current, and its epoch.
+    /// The current slot, and its epoch.
     pub(crate) slot: Slot,
     pub(crate) epoch: u64,
     /// The sequence of the journal page that is written next.
     pub(crate) next_sequence: u64,
-    /// How many journal pages stand behind the current slot.
+    /// How many journal pages follow the current slot.
     pub(crate) unchecked: u32,
-    /// The disk failed in a write.
+    /// A write of the disk failed.
     pub(crate) broken: bool,
     /// The checkpoint that is going.
     pub(crate) going: Option<GoingCheckpoint>,

@@ -13,7 +13,7 @@ use pages::{Format, Header, MOST_VERSIONS, PAGE_SIZE, Record, decode_journal_pag
 use roadnet::{Command, Network, OutOfMemory, Refusal};
 use std::alloc::Global;
 
-// Carries the command out where it is admitted. Answers whether it is. Memory is wanting for an admitted command alone.
+// Carries the command out if it is admitted. Returns whether it is. Memory can only run out for an admitted command.
 fn carry_out(network: &mut Network, command: Command) -> Result<bool, OutOfMemory>
     ensures carried { IfOk result (λ carried. carried ≡ true → step network.old command ≡ Some network.new) }
     ensures refused { IfOk result (λ carried. carried ≡ false → step network.old command ≡ None) }
@@ -29,7 +29,7 @@ fn carry_out(network: &mut Network, command: Command) -> Result<bool, OutOfMemor
     }
 }
 
-// Carries the commands of these records out, each where it is admitted in its turn. Answers whether all were.
+// Carries the commands of these records out, each if it is admitted in its turn. Returns whether all were.
 fn apply_all(network: &mut Network, records: &[Record]) -> Result<bool, OutOfMemory>
     ensures all { IfOk result (λ all. all ≡ true → step_group network.old (map (λ r. r.command) records.now) ≡ Some network.new) }
     ensures one_refused { IfOk result (λ all. all ≡ false → step_group network.old (map (λ r. r.command) records.now) ≡ None) }
@@ -45,7 +45,7 @@ fn apply_all(network: &mut Network, records: &[Record]) -> Result<bool, OutOfMem
     Ok(true)
 }
 
-// Judges the journal page of this number, and carries its commands out. Answers the version after them.
+// Judges the journal page of this number, and carries its commands out. Returns the version after them.
 fn apply_page(
     alloc: Global,
     page: &[u8; PAGE_SIZE],
@@ -85,7 +85,7 @@ fn apply_page(
     Ok(new)
 }
 
-// The same of the page on the disk that has this sequence.
+// Judges the page of this sequence on the disk, and carries its commands out.
 fn replay_page<D: Disk>(
     alloc: Global,
     disk: &mut D,
@@ -111,9 +111,9 @@ fn replay_page<D: Disk>(
     apply_page(alloc, &page, number, header.format, version, network)
 }
 
-/// Carries out the commands of the unchecked pages, page by page. Answers the version after them: each group counts one. The first page that isn't spelled rightly,
-/// whose first number isn't the next, that passes version 2^48 or of which a command isn't admitted in its turn, is damaged. On the disk
-/// nothing is changed.
+/// Carries out the commands of the unchecked pages, page by page. Returns the version after them: each group counts one. A page is damaged if it is not
+/// valid, if its first number is not the next one, if it passes version 2^48, or if one of its commands is not admitted in its turn; the first such page is
+/// reported. It changes nothing on the disk.
 pub fn replay<D: Disk>(
     alloc: Global,
     disk: &mut D,

@@ -24,13 +24,13 @@ use std::snapshot::Snapshot;
 
 /// A network that is kept on a disk.
 ///
-/// It takes the network, and a few numbers; while a checkpoint goes a copy of the network more, and a buffer of 64 pages.
+/// It takes the network, and a few numbers; while a checkpoint is going, also a copy of the network and a buffer of 64 pages.
 #[derive(Drop)]
 pub struct Store<D: Disk> {
     pub(crate) pages: Paged<D>,
     /// The disk as it was when the store was made or opened.
     pub(crate) given: Snapshot<D>,
-    /// The groups of the commit that failed, where one did.
+    /// The groups of the commit that failed, if one did.
     pub(crate) in_flight: InFlight,
 }
 
@@ -57,24 +57,24 @@ impl<D: Disk> Model for Store<D> {
 }
 
 impl<D: Disk> Store<D> {
-    /// The durable network, also where the store is broken.
+    /// The durable network, even if the store is broken.
     pub fn network(&self) -> &Network
         ensures { result.now ≡ self.now.network }
     {
         self.pages.network()
     }
 
-    /// The version of the durable network: how many groups were ever made durable. Where the store came tidy, over a disk that keeps the disk
-    /// model, and is not broken, a stop leaves the content alone, and it stands for this network and version: a fact of the store,
-    /// whatever was called since. Where it is broken, each content that a stop may leave stands for them, or for those after the
-    /// groups in flight, which are those of the commit that failed, or none.
+    /// The version of the durable network: how many groups were ever made durable. If the store came tidy, on a disk that keeps the disk model, and is not
+    /// broken, a stop leaves only the content, and that stands for this network and version: a fact of the store, whatever was called since. If it is
+    /// broken, each content that a stop may leave stands for them, or for those after the groups in flight, which are those of the commit that failed, or
+    /// none.
     pub fn version(&self) -> u64
         ensures version { result ≡ self.now.version }
         ensures honest { CameTidy D.honest D.content self.now.given → D.honest self.now.disk }
         ensures room { HasRoom self.now }
         ensures only { D.honest self.now.disk → self.now.broken ≡ false → Only (D.content self.now.disk) (D.left self.now.disk) }
         ensures stands { CameTidy D.honest D.content self.now.given → self.now.broken ≡ false → IsDurable self.now (D.content self.now.disk) }
-        // Tidy or not, before a commit the content stands as the store tells.
+        // Tidy or not, before a commit the content stands for the store's network and version.
         ensures before_commit { HasCommittedNothing D.honest D.content self.now → self.now.broken ≡ false → HasTold (D.content self.now.disk) (told self.now) }
         ensures left { CameTidy D.honest D.content self.now.given → (c : List ℕ) → D.left self.now.disk c → IsDurableOrAfter self.now self.now.in_flight c }
         ensures none_in_flight { self.now.broken ≡ false → self.now.in_flight ≡ [] }
@@ -83,8 +83,8 @@ impl<D: Disk> Store<D> {
         self.pages.version
     }
 
-    /// How many pages of the journal stand behind the current checkpoint. Where the store came tidy, or nothing was committed since, over a disk
-    /// that keeps the disk model, and it is not broken, so many stand behind it in the content.
+    /// How many pages of the journal follow the current checkpoint. If the store came tidy, or nothing was committed since, on a disk that keeps the disk
+    /// model, and it is not broken, so many pages follow it in the content.
     pub fn unchecked(&self) -> u32
         ensures unchecked { result ≡ self.now.unchecked }
         ensures stands { CameTidy D.honest D.content self.now.given → self.now.broken ≡ false → HasTold (D.content self.now.disk) (told self.now) }
@@ -100,16 +100,16 @@ impl<D: Disk> Store<D> {
         self.pages.header.journal_pages
     }
 
-    /// Whether the store is neither broken nor has a checkpoint going.
+    /// Whether the store is not broken and no checkpoint is going.
     pub fn calm(&self) -> bool
         ensures { result ≡ is_calm self.now }
     {
         self.pages.calm()
     }
 
-    /// The disk, of which no call is made. Where the store came tidy, over a disk that keeps the disk model, and is not broken, its content
-    /// is all that a stop may leave, and stands for the store's network and version: opened, it gives both again. Where it is
-    /// broken, each content that a stop may leave stands for them, or for those after the groups in flight.
+    /// The disk. No call of it is made. If the store came tidy, on a disk that keeps the disk model, and is not broken, a stop may leave only its content,
+    /// and that stands for the store's network and version: opening gives both again. If it is broken, each content that a stop may leave stands for them,
+    /// or for those after the groups in flight.
     pub fn close(self) -> D
         ensures disk { result ≡ self.disk }
         ensures honest { CameTidy D.honest D.content self.given → D.honest result }
@@ -120,48 +120,48 @@ impl<D: Disk> Store<D> {
         self.pages.close()
     }
 
-    /// Makes these groups, of 1 to 253 commands in all, durable as one page of the journal, and carries them out. Answers the new version:
-    /// each group counts one. All of them take place or none, whatever a stop does at any moment; at `Ok` they are there for good.
+    /// Makes these groups, of 1 to 253 commands in all, durable as one page of the journal, and carries them out. Returns the new version: each group
+    /// counts one. All of them take effect or none, whenever a stop comes. At `Ok` they are there for good.
     ///
-    /// Refused, the first that holds, is a broken store (45), a version that would pass 2^48 (28), a journal without a free page (44), and
-    /// the first command that isn't admitted after those before it (20 to 27, 29); then want of memory (11), all before any call of the disk;
-    /// then a disk that failed (43), after which the store is broken and writes nothing more. After each other refusal nothing is changed.
+    /// It is refused, in this order, if the store is broken (45), if the version would exceed 2^48 (28), if the journal has no free page (44), with the
+    /// refusal of the first command that is not admitted after those before it (20 to 27, 29), or for lack of memory (11), all before any call of the disk;
+    /// then if the disk fails (43), after which the store is broken and writes nothing more. After any other refusal nothing has changed.
     ///
-    /// It makes four writes and syncs, or six where the page at that place is open. It takes 4 bytes a landmark, and never a copy of the
-    /// arcs: n commands cost O(n^2) comparisons.
+    /// It makes four writes and syncs, or six if the page at that place is open. It takes 4 bytes a landmark, and never a copy of the arcs: n commands cost
+    /// O(n^2) comparisons.
     ///
-    /// In a new store of `examples/six.gr`, `Close { arc: 7 }` twice in one call, as two groups or as one, is `AlreadyClosed`, and version 0 stays; once, it answers 1.
-    /// With a journal of 2 pages, the third commit before a checkpoint is `JournalFull`.
+    /// In a new store of `examples/six.gr`, `Close { arc: 7 }` twice in one call, as two groups or as one, is `AlreadyClosed`, and version 0 stays. Once,
+    /// it returns 1. With a journal of 2 pages, the third commit before a checkpoint is `JournalFull`.
     pub fn commit_groups(&mut self, groups: &[Group]) -> Result<u64, Refusal>
         requires some { 1 ≤ length groups.now }
         requires few { count_of groups.now ≤ most_commands }
-        // At Ok the groups are carried out, each counted, and one page more is unchecked.
+        // At Ok the groups are carried out, each counts one version, and there is one more unchecked page.
         ensures version { IfOk result (λ version. (version ≡ self.new.version) × (version ≡ self.old.version + length groups.now)) }
         ensures network { OnOk result (after self.old.network groups.now ≡ Some self.new.network) }
         ensures unchecked { OnOk result (self.new.unchecked ≡ self.old.unchecked + 1) }
         ensures works { OnOk result (self.new.broken ≡ false) }
         ensures slot { (self.new.slot ≡ self.old.slot) × (self.new.epoch ≡ self.old.epoch) }
-        // A checkpoint that is going goes on, and counts the page.
+        // A checkpoint that is going continues, and counts the page.
         ensures going { OnOk result (self.new.going ≡ option_map with_page_committed self.old.going) }
         ensures given { self.new.given ≡ self.old.given }
         ensures sizes { (self.new.journal_pages ≡ self.old.journal_pages) × (self.new.checkpoint_pages ≡ self.old.checkpoint_pages) }
-        // It refuses exactly where there is a cause; and where there is none, for want of memory, or where the disk failed in this call.
+        // It refuses if there is a cause. If there is none, it may refuse only for lack of memory, or because the disk failed in this call.
         ensures refused { MatchResult result (λ _. commit_refusal self.old groups.now ≡ None) (MayRefuseCommit (commit_refusal self.old groups.now)) }
         ensures same { IfErr result (λ refusal. refusal ≢ device → self.new ≡ self.old) }
         ensures failed { IfErr result (λ refusal. refusal ≡ device → Rose (D.failures self.old.disk) (D.failures self.new.disk)) }
-        // The count rises by one where that is told, and else not at all: no failure is passed over.
+        // The count rises by one if that is reported, and otherwise not at all: no failure goes unreported.
         ensures counted { D.failures self.new.disk ≡ failures_told result (D.failures self.old.disk) }
         ensures breaks { IfErr result (λ refusal. refusal ≡ device → self.new.broken ≡ true) }
         ensures kept { OnErr result ((self.new.network ≡ self.old.network) × (self.new.version ≡ self.old.version)) }
         ensures kept_pages { OnErr result ((self.new.unchecked ≡ self.old.unchecked) × (self.new.going ≡ self.old.going)) }
         ensures adds_nothing { self.old.broken ≡ true → AddsNothing D.moment D.left_since self.old.disk self.new.disk }
-        // A stop at any moment of the call, or after it, leaves what stands for the network before the groups, or after them.
+        // A stop during the call or after it leaves content that stands for the network before the groups, or after them.
         ensures any_moment { WhileTidy D.honest D.content self.old (LeavesDurableOrAfter D.moment D.left_since groups.now self.old self.new) }
         ensures in_flight { WhileTidy D.honest D.content self.old ((c : List ℕ) → D.left self.new.disk c → IsDurableOrAfter self.old groups.now c) }
-        // Where the disk failed in it, these groups are in flight.
+        // If the disk failed in the call, these groups are in flight.
         ensures failed_in_flight { IfErr result (λ refusal. refusal ≡ device → self.new.in_flight ≡ groups.now) }
         ensures none_in_flight { OnOk result (self.new.in_flight ≡ []) }
-        // After Ok it leaves the content alone, which stands for the network after them.
+        // After Ok a stop leaves only the content, which stands for the network after them.
         ensures only { D.honest self.old.disk → OnOk result (Only (D.content self.new.disk) (D.left self.new.disk)) }
         ensures durable { CameTidy D.honest D.content self.old.given → OnOk result ((c : List ℕ) → D.left self.new.disk c → IsDurable self.new c) }
         ensures honest { D.honest self.new.disk ↔ D.honest self.old.disk }
@@ -172,39 +172,39 @@ impl<D: Disk> Store<D> {
         made
     }
 
-    /// As `commit_groups`, of commands each of which is a group of its own: n commands are n versions. All of them take place or none.
+    /// Commits commands as `commit_groups` does, each as a group of its own: n commands are n versions. All of them take effect or none.
     ///
-    /// In a new store of `examples/six.gr`, `Close { arc: 7 }` and `Set { arc: 8, length: 4 }` answer 2.
+    /// In a new store of `examples/six.gr`, `Close { arc: 7 }` and `Set { arc: 8, length: 4 }` return 2.
     pub fn commit(&mut self, commands: &[Command]) -> Result<u64, Refusal>
         requires some { 1 ≤ length commands.now }
         requires few { length commands.now ≤ most_commands }
-        // At Ok the commands are carried out, each counted, and one page more is unchecked.
+        // At Ok the commands are carried out, each counts one version, and there is one more unchecked page.
         ensures version { IfOk result (λ version. (version ≡ self.new.version) × (version ≡ self.old.version + length commands.now)) }
         ensures network { OnOk result (after self.old.network (alone commands.now) ≡ Some self.new.network) }
         ensures unchecked { OnOk result (self.new.unchecked ≡ self.old.unchecked + 1) }
         ensures works { OnOk result (self.new.broken ≡ false) }
         ensures slot { (self.new.slot ≡ self.old.slot) × (self.new.epoch ≡ self.old.epoch) }
-        // A checkpoint that is going goes on, and counts the page.
+        // A checkpoint that is going continues, and counts the page.
         ensures going { OnOk result (self.new.going ≡ option_map with_page_committed self.old.going) }
         ensures given { self.new.given ≡ self.old.given }
         ensures sizes { (self.new.journal_pages ≡ self.old.journal_pages) × (self.new.checkpoint_pages ≡ self.old.checkpoint_pages) }
-        // It refuses exactly where there is a cause; and where there is none, for want of memory, or where the disk failed in this call.
+        // It refuses if there is a cause. If there is none, it may refuse only for lack of memory, or because the disk failed in this call.
         ensures refused { RefusesCommit (commit_refusal self.old (alone commands.now)) result }
         ensures same { IfErr result (λ refusal. refusal ≢ device → self.new ≡ self.old) }
         ensures failed { IfErr result (λ refusal. refusal ≡ device → Rose (D.failures self.old.disk) (D.failures self.new.disk)) }
-        // The count rises by one where that is told, and else not at all: no failure is passed over.
+        // The count rises by one if that is reported, and otherwise not at all: no failure goes unreported.
         ensures counted { D.failures self.new.disk ≡ failures_told result (D.failures self.old.disk) }
         ensures breaks { IfErr result (λ refusal. refusal ≡ device → self.new.broken ≡ true) }
         ensures kept { OnErr result ((self.new.network ≡ self.old.network) × (self.new.version ≡ self.old.version)) }
         ensures kept_pages { OnErr result ((self.new.unchecked ≡ self.old.unchecked) × (self.new.going ≡ self.old.going)) }
         ensures adds_nothing { self.old.broken ≡ true → AddsNothing D.moment D.left_since self.old.disk self.new.disk }
-        // A stop at any moment of the call, or after it, leaves what stands for the network before the commands, or after them.
+        // A stop during the call or after it leaves content that stands for the network before the commands, or after them.
         ensures any_moment { WhileTidy D.honest D.content self.old (LeavesDurableOrAfter D.moment D.left_since (alone commands.now) self.old self.new) }
         ensures in_flight { WhileTidy D.honest D.content self.old ((c : List ℕ) → D.left self.new.disk c → IsDurableOrAfter self.old (alone commands.now) c) }
-        // Where the disk failed in it, these commands are in flight.
+        // If the disk failed in the call, these commands are in flight.
         ensures failed_in_flight { IfErr result (λ refusal. refusal ≡ device → self.new.in_flight ≡ (alone commands.now)) }
         ensures none_in_flight { OnOk result (self.new.in_flight ≡ []) }
-        // After Ok it leaves the content alone, which stands for the network after them.
+        // After Ok a stop leaves only the content, which stands for the network after them.
         ensures only { D.honest self.old.disk → OnOk result (Only (D.content self.new.disk) (D.left self.new.disk)) }
         ensures durable { CameTidy D.honest D.content self.old.given → OnOk result ((c : List ℕ) → D.left self.new.disk c → IsDurable self.new c) }
         ensures honest { D.honest self.new.disk ↔ D.honest self.old.disk }
@@ -213,52 +213,53 @@ impl<D: Disk> Store<D> {
         self.commit_groups(&groups[..commands.len()])
     }
 
-    /// Writes a part of a checkpoint: of the one that is going, or else of one that begins. A checkpoint holds the network as it was when it
-    /// began, and goes to the slot that is not current. At most so many word pages and end pages, 1 to 64, are written. Answers `Going` where some are
-    /// left then. Else the slot is current, only the pages of the journal committed since the checkpoint began are unchecked, and it
-    /// answers `Done` with the version that the checkpoint holds. Where none is going and no page is unchecked, nothing is done.
+    /// Writes a part of a checkpoint: of the one that is going, or otherwise of a new one. A checkpoint holds the network as it was when it began, and goes
+    /// to the slot that is not current. At most so many word pages and end pages, 1 to 64, are written. Returns `Going` if some are then left. Otherwise
+    /// the slot is current, only the pages of the journal committed since the checkpoint began are unchecked, and it returns `Done` with the version that
+    /// the checkpoint holds. If none is going and no page is unchecked, nothing is done.
     ///
-    /// Network and version of the store stay, whatever a stop does at any moment; a stop loses a checkpoint that is going, and nothing else.
+    /// The store's network and version stay, whenever a stop comes. A stop loses a checkpoint that is going, and nothing else.
     ///
-    /// Refused is a broken store (45); then want of memory (11), where a checkpoint would begin, before any call of the disk; then a disk that
-    /// failed (43), after which the store is broken and writes nothing more. After each other refusal nothing is changed.
+    /// It is refused if the store is broken (45); then for lack of memory (11) when a checkpoint would begin, before any call of the disk; then if the disk
+    /// fails (43), after which the store is broken and writes nothing more. After any other refusal nothing has changed.
     ///
-    /// Where a slot has three word pages and a commit has made version 1, a part of 1 page answers `Going`, and then one of 64 `Done(1)`.
+    /// If a slot has three word pages and a commit has made version 1, a part of 1 page returns `Going`, and then one of 64 `Done(1)`.
     pub fn checkpoint_part(&mut self, pages: u32) -> Result<Part, Refusal>
         requires some { 1 ≤ pages }
         requires few { pages ≤ 64 }
-        // Network and version stay, also after a refusal.
+        // Network and version stay, even after a refusal.
         ensures network { self.new.network ≡ self.old.network }
         ensures version { self.new.version ≡ self.old.version }
         ensures given { self.new.given ≡ self.old.given }
         ensures same_in_flight { self.new.in_flight ≡ self.old.in_flight }
         ensures sizes { (self.new.journal_pages ≡ self.old.journal_pages) × (self.new.checkpoint_pages ≡ self.old.checkpoint_pages) }
-        // Where none is going and no page is unchecked, nothing is changed, the disk neither.
+        // If no checkpoint is going and no page is unchecked, nothing is changed, not even on the disk.
         ensures nothing { self.old.broken ≡ false → has_all_checked self.old ≡ true → (result ≡ Ok (Part.Done self.old.version)) × (self.new ≡ self.old) }
-        // Else so many pages more are written, or all are, and only what was committed since is unchecked.
+        // Otherwise this many more pages are written, or all that are left, and only what was committed since is unchecked.
         ensures answers { has_all_checked self.old ≡ false → IfOk result (λ part. part ≡ part_by (checkpoint_of self.old) pages) }
         ensures going { has_all_checked self.old ≡ false → OnOk result (self.new.going ≡ progress_by (checkpoint_of self.old) pages) }
         ensures unchecked { has_all_checked self.old ≡ false → OnOk result (self.new.unchecked ≡ unchecked_by (checkpoint_of self.old) self.old.unchecked pages) }
-        // Once all are written the slot is current, with an epoch above the one before.
+        // Once all are written, the slot is current, with an epoch above the one before.
         ensures slot { has_all_checked self.old ≡ false → OnOk result (self.new.slot ≡ slot_by (checkpoint_of self.old) self.old.slot pages) }
         ensures epoch { has_all_checked self.old ≡ false → OnOk result (self.new.epoch ≡ epoch_by (checkpoint_of self.old) self.old.epoch pages) }
         ensures works { OnOk result (self.new.broken ≡ false) }
-        // It refuses where the store is broken; and where it is not, for want of memory where a checkpoint would begin, or where the disk failed in this call.
+        // It refuses if the store is broken. If it is not, it may refuse only for lack of memory when a checkpoint would begin, or because the disk failed
+        // in this call.
         ensures refused { MatchResult result (λ _. refusal_of_checkpoint self.old.broken ≡ None) (MayRefuseCheckpoint (refusal_of_checkpoint self.old.broken)) }
         ensures memory { IfErr result (λ refusal. refusal ≡ out_of_memory → self.old.going ≡ None) }
         ensures same { IfErr result (λ refusal. refusal ≢ device → self.new ≡ self.old) }
-        // The count of failures rises by one where a failure of the disk is told, and else not at all: none is passed over.
+        // The count of failures rises by one if a failure of the disk is reported, and otherwise not at all: no failure goes unreported.
         ensures counted { D.failures self.new.disk ≡ failures_told result (D.failures self.old.disk) }
         ensures failed { IfErr result (λ refusal. refusal ≡ device → Rose (D.failures self.old.disk) (D.failures self.new.disk)) }
         ensures breaks { IfErr result (λ refusal. refusal ≡ device → self.new.broken ≡ true) }
-        // After a refusal the checkpoint that went is as far as it was.
+        // After a refusal the checkpoint has come as far as before.
         ensures kept { OnErr result ((self.new.unchecked ≡ self.old.unchecked) × (self.new.going ≡ self.old.going)) }
         ensures kept_slot { OnErr result ((self.new.slot ≡ self.old.slot) × (self.new.epoch ≡ self.old.epoch)) }
         ensures adds_nothing { self.old.broken ≡ true → AddsNothing D.moment D.left_since self.old.disk self.new.disk }
-        // A stop at any moment of the call, or after it, leaves what stands for this network and version.
+        // A stop during the call or after it leaves content that stands for this network and version.
         ensures any_moment { WhileTidy D.honest D.content self.old (LeavesOnly D.moment D.left_since self.old.disk self.new.disk (IsDurable self.old)) }
         ensures left { CameTidy D.honest D.content self.old.given → self.old.broken ≡ false → (c : List ℕ) → D.left self.new.disk c → IsDurable self.old c }
-        // Tidy or not, before a commit the content stands, after Ok, as the store tells then.
+        // Tidy or not, before a commit the content stands, after Ok, for the store's network and version.
         ensures before_commit { HasCommittedNothing D.honest D.content self.old → OnOk result (HasTold (D.content self.new.disk) (told self.new)) }
         ensures only { D.honest self.old.disk → OnOk result (Only (D.content self.new.disk) (D.left self.new.disk)) }
         ensures honest { D.honest self.new.disk ↔ D.honest self.old.disk }
@@ -266,42 +267,43 @@ impl<D: Disk> Store<D> {
         self.pages.checkpoint_part(pages)
     }
 
-    /// Writes all that is left of the checkpoint that is going, or else of one that begins. Network and version stay, whatever a stop does at
-    /// any moment. Answers the version that the checkpoint holds; only the pages of the journal committed since it began are unchecked then.
-    /// Where none is going and no page is unchecked, nothing is done.
+    /// Writes everything that is left of the checkpoint that is going, or otherwise a whole new one. Network and version stay, whenever a stop comes.
+    /// Returns the version that the checkpoint holds. Then only the pages of the journal committed since it began are unchecked. If none is going and no
+    /// page is unchecked, nothing is done.
     ///
-    /// Refused as a part is.
+    /// It is refused as a part is.
     ///
-    /// With two commands made durable by a call each and no checkpoint going, it answers 2, and no page of the journal is unchecked then.
+    /// With two commands made durable by a call each and no checkpoint going, it returns 2, and then no page of the journal is unchecked.
     pub fn checkpoint(&mut self) -> Result<u64, Refusal>
-        // Network and version stay, also after a refusal.
+        // Network and version stay, even after a refusal.
         ensures network { self.new.network ≡ self.old.network }
         ensures version { self.new.version ≡ self.old.version }
         ensures given { self.new.given ≡ self.old.given }
         ensures same_in_flight { self.new.in_flight ≡ self.old.in_flight }
         ensures sizes { (self.new.journal_pages ≡ self.old.journal_pages) × (self.new.checkpoint_pages ≡ self.old.checkpoint_pages) }
-        // Where none is going and no page is unchecked, nothing is changed, the disk neither.
+        // If no checkpoint is going and no page is unchecked, nothing is changed, not even on the disk.
         ensures nothing { self.old.broken ≡ false → has_all_checked self.old ≡ true → (result ≡ Ok self.old.version) × (self.new ≡ self.old) }
         ensures answers { IfOk result (λ version. version ≡ (checkpoint_of self.old).version) }
         ensures going { OnOk result (self.new.going ≡ None) }
         ensures unchecked { OnOk result (self.new.unchecked ≡ (checkpoint_of self.old).committed) }
         ensures slot { has_all_checked self.old ≡ false → OnOk result ((self.new.slot ≡ other self.old.slot) × (self.new.epoch ≡ self.old.epoch + 1)) }
         ensures works { OnOk result (self.new.broken ≡ false) }
-        // It refuses where the store is broken; and where it is not, for want of memory where a checkpoint would begin, or where the disk failed in this call.
+        // It refuses if the store is broken. If it is not, it may refuse only for lack of memory when a checkpoint would begin, or because the disk failed
+        // in this call.
         ensures refused { MatchResult result (λ _. refusal_of_checkpoint self.old.broken ≡ None) (MayRefuseCheckpoint (refusal_of_checkpoint self.old.broken)) }
         ensures memory { IfErr result (λ refusal. refusal ≡ out_of_memory → self.old.going ≡ None) }
         ensures same { IfErr result (λ refusal. refusal ≢ device → self.new ≡ self.old) }
-        // The count of failures rises by one where a failure of the disk is told, and else not at all: none is passed over.
+        // The count of failures rises by one if a failure of the disk is reported, and otherwise not at all: no failure goes unreported.
         ensures counted { D.failures self.new.disk ≡ failures_told result (D.failures self.old.disk) }
         ensures failed { IfErr result (λ refusal. refusal ≡ device → Rose (D.failures self.old.disk) (D.failures self.new.disk)) }
         ensures breaks { IfErr result (λ refusal. refusal ≡ device → self.new.broken ≡ true) }
         ensures kept { OnErr result ((self.new.unchecked ≡ self.old.unchecked) × (self.new.going ≡ self.old.going)) }
         ensures kept_slot { OnErr result ((self.new.slot ≡ self.old.slot) × (self.new.epoch ≡ self.old.epoch)) }
         ensures adds_nothing { self.old.broken ≡ true → AddsNothing D.moment D.left_since self.old.disk self.new.disk }
-        // A stop at any moment of the call, or after it, leaves what stands for this network and version.
+        // A stop during the call or after it leaves content that stands for this network and version.
         ensures any_moment { WhileTidy D.honest D.content self.old (LeavesOnly D.moment D.left_since self.old.disk self.new.disk (IsDurable self.old)) }
         ensures left { CameTidy D.honest D.content self.old.given → self.old.broken ≡ false → (c : List ℕ) → D.left self.new.disk c → IsDurable self.old c }
-        // Tidy or not, before a commit the content stands, after Ok, as the store tells then.
+        // Tidy or not, before a commit the content stands, after Ok, for the store's network and version.
         ensures before_commit { HasCommittedNothing D.honest D.content self.old → OnOk result (HasTold (D.content self.new.disk) (told self.new)) }
         ensures only { D.honest self.old.disk → OnOk result (Only (D.content self.new.disk) (D.left self.new.disk)) }
         ensures honest { D.honest self.new.disk ↔ D.honest self.old.disk }

@@ -3,7 +3,7 @@
 ghost use Rattle.storefile.specs.Laws.{AtMostOne, InOneFormat, IsNotRefused, UnrefusedMeansSomething, StoresNetworks, GivesNetworks, StandingIsStored, ClosedPageMeansNothing, OpenPageIsOneMore, ClosedSlotMeansNothing, OpenSlotIsCurrent, SlotsKeepTidy};
 ghost use Rattle.storefile.specs.Vectors.{FileExamples, GroupExamples, RoomExamples, OldExamples};
 
-/// A file stands for at most one network, version and next sequence, and for one exactly where opening refuses it nowhere.
+/// A file stands for at most one network, version and next sequence. It stands for one exactly if opening does not refuse it.
 pub fn meaning_of_a_file()
     ensures at_most_one { AtMostOne }
     ensures one_format { InOneFormat }
@@ -14,20 +14,20 @@ pub fn meaning_of_a_file()
     ensures told { StandingIsStored }
 {}
 
-/// What a file stands for while the page of its journal that comes next is written, and once it is.
+/// What a file stands for while the next page of its journal is being written, and afterwards.
 pub fn journal_page_that_is_written()
     ensures closed { ClosedPageMeansNothing }
     ensures opened { OpenPageIsOneMore }
 {}
 
-/// What a file stands for while the slot that is not current is written, and once it is.
+/// What a file stands for while the slot that is not current is being written, and afterwards.
 pub fn slot_that_is_written()
     ensures closed { ClosedSlotMeansNothing }
     ensures opened { OpenSlotIsCurrent }
     ensures tidy { SlotsKeepTidy }
 {}
 
-/// The worked files are judged so.
+/// The worked files are judged as stated.
 pub fn worked_files()
     ensures { FileExamples }
 {}

@@ -1,4 +1,4 @@
-//! What a store file means: the network and version for which its bytes stand, or the first reason why they stand for none.
+//! What a store file means: the network and version that its bytes stand for, or the first reason why they stand for none.
 #![tactic(auto)]
 
 mod laws;

@@ -1,9 +1,7 @@
 use Rattle.std.proofs.Common.{rules, List, sym, subst}
-use Rattle.history.specs.Origins.{Beginning}
-use Rattle.roadnet.specs.Walks.{RowOf}
 use Rattle.desk.specs.declared.shelves.KeptRow.{KeptRow}
-use Rattle.desk.specs.Shelves.{IsShelfOf, IsOfShelf, IsAfter, IsRowAt, Shelved}
-use Rattle.desk.proofs.Shelved.{of_shelf, row_found, shelf_with, shelf_without}
+use Rattle.desk.specs.Shelves.{IsShelfOf, IsOfShelf, IsRowAt}
+use Rattle.desk.proofs.Shelved.{of_shelf, shelf_with, shelf_without}
 use Rattle.desk.proofs.shelves.Shelf.row.Goals as goal
 
 pub invariant_of-self : goal.invariant_of-self

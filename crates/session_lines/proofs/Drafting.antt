@@ -1,5 +1,5 @@
 -- What the lines of a group say, with one line more, and at its end.
-use Rattle.std.proofs.Common.{◌≡◌, ◌∙◌, ℕ, ◌+◌, ◌<◌, ◌≤◌, Bool, true, false, eqb, List, [], ◌∷◌, ◌++◌, length, Option, None, Some, refl, sym, ap, subst, arith}
+use Rattle.std.proofs.Common.{◌≡◌, ◌∙◌, ℕ, ◌+◌, ◌<◌, ◌≤◌, Bool, true, false, eqb, List, [], ◌∷◌, ◌++◌, length, None, Some, refl, sym, ap, subst, arith}
 use Rattle.std.specs.Prelude.{nat_le, if◌then◌else◌}
 use Rattle.std.proofs.lemmas.Bool.{le-leb, lt-leb, ne_eqb}
 use Rattle.std.proofs.lemmas.List.{length-append}
@@ -7,10 +7,7 @@ use Rattle.roadnet.specs.declared.commands.Command.{Command}
 use Rattle.roadnet.specs.Groups.{most_of_group, IsGroup}
 use Rattle.dimacs.specs.declared.fault.Code.{Code}
 use Rattle.dimacs.specs.declared.fault.Code.TheVariants.{GroupSize}
-use Rattle.session_lines.specs.declared.drafts.Draft.{Draft}
-use Rattle.session_lines.specs.declared.lines.Line.{Line}
-use Rattle.session_lines.specs.declared.lines.Line.TheVariants.{End}
-use Rattle.session_lines.specs.Drafts.{Drafted, HasDraft, IsDraft, fault_of, next_draft, with_command, with_fault, with_line}
+use Rattle.session_lines.specs.Drafts.{Drafted, fault_of, with_command, with_fault}
 
 -- the first fault stays
 pub first_fault : (draft : Drafted) (first code : Code) → draft.fault ≡ Some first → (with_fault draft code).fault ≡ Some first
@@ -77,17 +74,3 @@ module _ (draft : Drafted) where
 
   pub faulty_group : (code : Code) → draft.fault ≡ Some code → fault_of draft ≡ Some code
   faulty_group code is = rw is refl
-
--- ---- within a group or outside
-pub none_drafted : (d : Option Drafted) → HasDraft d None → d ≡ None
-none_drafted None has = refl
-none_drafted (Some draft) has = absurd has
-
-pub some_drafted : (d : Option Drafted) (kept : Draft) → HasDraft d (Some kept) → (draft : Drafted) × (d ≡ Some draft) × IsDraft draft kept
-some_drafted None kept has = absurd has
-some_drafted (Some draft) kept has = (draft, refl, has)
-
--- a line that doesn't end the group
-pub next_within : (draft : Drafted) (line : Line) (new : Draft) → (line ≡ End → ⊥) → IsDraft (with_line draft line) new → HasDraft (next_draft (Some draft) line) (Some new)
-next_within draft End new other is = absurd (other refl)
-next_within draft _ new other is = is

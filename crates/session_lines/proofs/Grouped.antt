@@ -1,18 +1,17 @@
 -- The code of a line within a group, by that of the line alone.
-use Rattle.std.proofs.Common.{◌≡◌, ◌∙◌, ℕ, Bool, true, false, ◌||◌, cond, List, [], ◌∷◌, Option, None, Some, length, refl, sym, ap, subst, inl, inr}
+use Rattle.std.proofs.Common.{◌≡◌, ◌∙◌, ℕ, Bool, true, false, ◌||◌, cond, List, [], ◌∷◌, None, Some, refl, sym, ap, subst, inl, inr}
 use Rattle.std.specs.Prelude.{is_some}
 use Rattle.std.specs.Str.{bytes_eq}
 use Rattle.std.proofs.lemmas.Bool.{cases_Bool}
 use Rattle.std.proofs.lemmas.Slice.Eq.{bytes_eq-Decides}
 use lib.Chars.{codes}
-use Rattle.dimacs.specs.declared.fault.Code.{Code}
 use Rattle.dimacs.specs.declared.fault.Code.TheVariants.{BadLine, NumberRange}
 use Rattle.dimacs.specs.declared.numeral.Numeral.{Numeral}
 use Rattle.dimacs.specs.declared.words.OneNumber.TheVariants.{Close, Reopen, Mark, Unmark}
 use Rattle.dimacs.specs.declared.words.TwoNumbers.TheVariants.{Set, Dist, From, Lower}
-use Rattle.dimacs.specs.Commands.{Form, form, form_of, is_refused, command_code}
+use Rattle.dimacs.specs.Commands.{form, form_of, is_refused, command_code}
 use Rattle.dimacs.specs.Faults.{Row, is_empty, is_remark, is_malformed, some_numeral}
-use Rattle.dimacs.specs.Numerals.{numeral, kept}
+use Rattle.dimacs.specs.Numerals.{numeral}
 use Rattle.dimacs.proofs.CommandRows.{kept_refused}
 use Rattle.dimacs.proofs.Items.{or-false}
 use Rattle.session_lines.specs.declared.words.Bare.TheVariants.{End}
@@ -20,16 +19,15 @@ use Rattle.session_lines.specs.declared.words.One.{One as OneWord}
 use Rattle.session_lines.specs.declared.words.One.TheVariants.{Common as one_common, Arc, Until}
 use Rattle.session_lines.specs.declared.words.Two.{Two as TwoWord}
 use Rattle.session_lines.specs.declared.words.Two.TheVariants.{Common as two_common, Arcs, Reach, Reached, Nearest}
-use Rattle.session_lines.specs.declared.words.Word.TheVariants.{WithNone, WithOne, WithTwo, Lay}
+use Rattle.session_lines.specs.declared.words.Word.TheVariants.{WithOne, WithTwo, Lay}
 use Rattle.session_lines.specs.declared.fields.Numbers.TheVariants.{One, Two, Three}
 use Rattle.session_lines.specs.declared.lines.Line.TheVariants.{Refused}
 use Rattle.session_lines.specs.Fields.{IsNumbers}
 use Rattle.session_lines.specs.Names.{copy_of}
 use Rattle.session_lines.specs.SessionLines.{IsLine, grouped_forms, grouped_code, session_code}
 use Rattle.session_lines.specs.Spelled.{spelling}
-use Rattle.session_lines.specs.Tables.{is_table}
 use Rattle.session_lines.specs.Words.{one_out_of_range, two_out_of_range}
-use Rattle.session_lines.proofs.Worded.{IsForm, bare_form, one_form, two_form, lay_form, KeptAs, kept_as, one_code, two_code, lay_code, both_refused, all_refused}
+use Rattle.session_lines.proofs.Worded.{IsForm, bare_form, one_form, two_form, lay_form, kept_as, one_code, two_code, lay_code, both_refused, all_refused}
 
 -- ---- a line that is no line alone is none within a group
 

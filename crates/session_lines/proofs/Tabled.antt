@@ -6,7 +6,8 @@ use Rattle.std.specs.Option.{option_map_or}
 use Rattle.std.specs.Str.{bytes_eq}
 use Rattle.std.proofs.Math.ListN.{get_or-map, get_or-append}
 use Rattle.std.proofs.Math.Nat.{le-mul_of_pos_right, mul_comm}
-use Rattle.std.proofs.lemmas.Bool.{and_parts, or_parts, cases_Bool, eq-eqb, eqb-true, false_from_ne_true, leb-true, ltb-false, ne_eqb}
+use Rattle.std.proofs.lemmas.Bool.{and_parts, or_parts, cases_Bool, eq-eqb, eqb-true, false_from_ne_true, leb-true, ltb-false, ltb-true, ne_eqb}
+use Rattle.std.proofs.lemmas.Bool.Decides.{nat_tests}
 use Rattle.std.proofs.lemmas.Grind.{flat_map-append}
 use Rattle.std.proofs.lemmas.List.{append-nil, drop-map, length-append, length-map, map-append, take_more}
 use Rattle.std.proofs.lemmas.List.Folds.{list_any-append}
@@ -18,7 +19,7 @@ use Rattle.dimacs.specs.Commands.{is_refused}
 use Rattle.dimacs.specs.Content.{size_at}
 use Rattle.dimacs.specs.Faults.{Row, size_of, some_numeral}
 use Rattle.dimacs.specs.Lines.{is_blank, fields}
-use Rattle.dimacs.specs.Numerals.{numeral, kept}
+use Rattle.dimacs.specs.Numerals.{numeral}
 use Rattle.dimacs.proofs.CommandRows.{kept_number, kept_refused}
 use Rattle.dimacs.proofs.Items.{known}
 use Rattle.session_lines.specs.declared.fields.Field.{Field}
@@ -29,16 +30,16 @@ use Rattle.session_lines.specs.declared.lines.Line.TheVariants.{Refused}
 use Rattle.session_lines.proofs.Grouped.{other_within}
 use Rattle.session_lines.specs.declared.lines.Stage.TheVariants.{Beginning, Listing as a_listing}
 use Rattle.session_lines.specs.declared.tables.Listing.{Listing}
-use Rattle.session_lines.specs.declared.tables.Listing.TheVariants.{Faulty}
+use Rattle.session_lines.specs.declared.tables.Listing.TheVariants.{Faulty, Unkept}
 use Rattle.session_lines.specs.Fields.{IsField, as_row, number_of, signed_field}
-use Rattle.session_lines.specs.Judging.{IsOneField, IsStage, letters_of}
-use Rattle.session_lines.specs.Listings.{AreListed, IsListing, has_room, is_sized, is_whole, kept_size, numbers_by}
+use Rattle.session_lines.specs.Judging.{IsStage, letters_of}
+use Rattle.session_lines.specs.Listings.{AreInOrder, AreListed, IsListing, has_room, is_sized, is_whole, kept_size, numbers_by}
 use Rattle.session_lines.specs.SessionLines.{session_code, AsksForTable, IsLine}
 use Rattle.session_lines.specs.Tables.{is_no_table, is_table_size, numbers_of_table, pairs_of, table_code}
 use Rattle.session_lines.proofs.Fieldwise.{ended_by_blank, ended_by_line, one_more}
 use Rattle.session_lines.proofs.Numbered.{as_one, number_is, no_number}
 use Rattle.session_lines.proofs.Staged.{first_whole, no_bytes}
-use Rattle.session_lines.proofs.Worded.{KeptAs, kept_as, no_numeral}
+use Rattle.session_lines.proofs.Worded.{kept_as, no_numeral}
 
 -- ---- sizes that are kept
 -- each count of a table is no greater than its pairs
@@ -162,6 +163,27 @@ module _ (row : Row) (sizes : List ℕ) (refused : Bool) (are : AreListed row si
             rw (some, amiss) refl
       ]
 
+  -- one number more, for which no memory was given
+  pub in_order : has_room sizes ≡ true → (field : List ℕ) (n : Numeral) → Some n ≡ number_of field → AreInOrder (row ++ field ∷ [])
+  in_order room field n is =
+      let k = kept_as field n is in
+      let test : List ℕ → Bool = λ f. is_none (numeral f) in
+      let longer : length (row ++ field ∷ []) ≡ length row + 1 = length-append row (field ∷ []) in
+      record {
+        numerals = list_any-append test row (field ∷ []) ∙ rw (are.numerals, k.is) refl;
+        counted = λ more.
+            let two : 2 ≤ length row = omega (arith, more, longer) in
+            let few : nat_lt (length sizes) 2 ≡ false = grind (arith, nat_tests, two, count_is) in
+            let last : (is_sized sizes && nat_lt (length sizes) (numbers_by sizes)) ≡ true = rw few at room in
+            let parts : (is_sized sizes ≡ true) × (nat_lt (length sizes) (numbers_by sizes) ≡ true) = and_parts _ _ last in
+            let sized : is_table_size (size_at row 0) (size_at row 1) ≡ true = sym sized_is ∙ parts.0 in
+            let below : length sizes < numbers_by sizes = ltb-true (length sizes) (numbers_by sizes) parts.1 in
+            let first : size_at (row ++ field ∷ []) 0 ≡ size_at row 0 = ap size_of (get_or-append row (field ∷ []) [] 0 (omega (arith, two))) in
+            let second : size_at (row ++ field ∷ []) 1 ≡ size_at row 1 = ap size_of (get_or-append row (field ∷ []) [] 1 (omega (arith, two))) in
+            let numbers : numbers_of_table (row ++ field ∷ []) ≡ numbers_of_table row = rw (first, second) refl in
+            (rw (first, second) sized, omega (arith, below, count_is, numbers_is sized, numbers, longer));
+      }
+
 -- a field that is no numeral
 or_last : (a b c : Bool) → c ≡ true → (a || (b || c)) ≡ true
 or_last true b c e = refl
@@ -189,6 +211,25 @@ full_row row sizes refused are full field more =
 
 pub still_faulty : (row : Row) (field : List ℕ) → IsListing row Faulty → IsListing (row ++ field ∷ []) Faulty
 still_faulty row field is more = rw (append_assoc row (field ∷ []) more) (is (field ∷ more))
+
+-- a number for which no memory was given ends those that are in order
+pub first_unkept : (row : Row) (field : List ℕ) (sizes : List ℕ) (refused : Bool) (n : Numeral) → AreListed row sizes refused → has_room sizes ≡ true → Some n ≡ number_of field → IsListing (row ++ field ∷ []) Unkept
+first_unkept row field sizes refused n are room is = record {
+  front = row ++ field ∷ [];
+  rest = [];
+  row_is = sym (append-nil (row ++ field ∷ []));
+  some = omega (arith, length-append row (field ∷ []));
+  in_order = in_order row sizes refused are room field n is;
+}
+
+pub still_unkept : (row : Row) (field : List ℕ) → IsListing row Unkept → IsListing (row ++ field ∷ []) Unkept
+still_unkept row field is = record {
+  front = is.front;
+  rest = is.rest ++ field ∷ [];
+  row_is = ap (λ (r : Row). r ++ field ∷ []) is.row_is ∙ append_assoc is.front is.rest (field ∷ []);
+  some = is.some;
+  in_order = is.in_order;
+}
 
 -- one number more
 pub listed_more : (row : Row) (field : List ℕ) (sizes more : List ℕ) (refused : Bool) (n : Numeral) → AreListed row sizes refused → Some n ≡ number_of field → more ≡ sizes ++ n.size ∷ []

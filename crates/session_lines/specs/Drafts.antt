@@ -1,5 +1,5 @@
 -- What the lines of a group say, from its `begin` on.
-use Rattle.std.specs.Prelude.{◌≡◌, ◌≤◌, ◌==◌, nat_le, List, [], ◌∷◌, ◌++◌, length, Option, None, Some, unwrap_or, if◌then◌else◌, ⊤}
+use Rattle.std.specs.Prelude.{◌≡◌, ◌≤◌, ◌==◌, nat_le, List, [], ◌∷◌, ◌++◌, length, Option, None, Some, unwrap_or, if◌then◌else◌}
 use Rattle.roadnet.specs.declared.commands.Command.{Command}
 use Rattle.roadnet.specs.Groups.{most_of_group}
 use Rattle.dimacs.specs.declared.fault.Code.{Code}
@@ -10,7 +10,7 @@ use Rattle.session_lines.specs.declared.drafts.Draft.TheVariants.{Whole, Unkept,
 use Rattle.session_lines.specs.declared.drafts.NoGroup.{NoGroup}
 use Rattle.session_lines.specs.declared.drafts.NoGroup.TheVariants.{Fault, NoMemory}
 use Rattle.session_lines.specs.declared.lines.Line.{Line}
-use Rattle.session_lines.specs.declared.lines.Line.TheVariants.{Ignored, Command as a_command, Suppose, Begin, End, Refused}
+use Rattle.session_lines.specs.declared.lines.Line.TheVariants.{Ignored, Command as a_command, Refused}
 
 -- the commands, at most 253, and the code of the first line that has a fault there
 pub record Drafted : Type 0 where
@@ -34,25 +34,6 @@ with_line draft (a_command command) = with_command draft command
 with_line draft (Refused code grouped) = with_fault draft grouped
 with_line draft other = with_fault draft BadLine
 
--- the group that lines are in, if they are in one, behind one line more
-abbrev pub next_draft : Option Drafted → Line → Option Drafted
-next_draft None Begin = Some no_draft
-next_draft None other = None
-next_draft (Some draft) End = None
-next_draft (Some draft) other = Some (with_line draft other)
-
--- the group that is to be supposed and that lines are in, if they are in one, behind one line more: `suppose` begins it where they are in none
-abbrev pub next_supposing : Option Drafted → Option Drafted → Line → Option Drafted
-next_supposing (Some group) draft End = None
-next_supposing (Some group) draft other = Some (with_line group other)
-next_supposing None None Suppose = Some no_draft
-next_supposing None draft other = None
-
--- the group that is to be carried out: lines of one that is to be supposed are none of it
-abbrev pub next_draft_beside : Option Drafted → Option Drafted → Line → Option Drafted
-next_draft_beside (Some group) draft line = draft
-next_draft_beside None draft line = next_draft draft line
-
 -- the code of the first line that has a fault, or else that of a group without a command
 abbrev pub fault_of : Drafted → Option Code
 fault_of draft = or_else draft.fault (if length draft.commands == 0 then Some GroupSize else None)
@@ -62,12 +43,6 @@ abbrev pub IsDraft : Drafted → Draft → Type 0
 IsDraft draft (Whole commands) = (draft.fault ≡ None) × (draft.commands ≡ commands.items) × (length draft.commands ≤ most_of_group)
 IsDraft draft (Unkept count) = (draft.fault ≡ None) × (length draft.commands ≡ count) × (1 ≤ count)
 IsDraft draft (Faulty code) = draft.fault ≡ Some code
-
-abbrev pub HasDraft : Option Drafted → Option Draft → Type 0
-HasDraft None None = ⊤
-HasDraft None (Some kept) = ⊥
-HasDraft (Some draft) None = ⊥
-HasDraft (Some draft) (Some kept) = IsDraft draft kept
 
 -- the lines have no fault and give this group
 abbrev pub IsWhole : Drafted → List Command → Type 0

@@ -10,7 +10,6 @@ use Rattle.session_lines.specs.declared.fields.Numbers.{Numbers}
 use Rattle.session_lines.specs.declared.tables.Listing.{Listing}
 use Rattle.session_lines.specs.declared.words.Word.{Word}
 use Rattle.session_lines.specs.declared.letters.Letters.{Letters}
-use Rattle.session_lines.specs.declared.names.Name.{Name}
 use Rattle.session_lines.specs.declared.lines.Stage.{Stage}
 use Rattle.session_lines.specs.declared.lines.Stage.TheVariants.{Blank, Beginning, Remark, Unknown, Behind, Listing as a_listing, Unnamed, Naming, Named}
 use Rattle.session_lines.specs.declared.lines.LineSoFar.{LineSoFar}

@@ -1,14 +1,15 @@
 -- What is known of the numbers behind `table` before the line ends.
-use Rattle.std.specs.Prelude.{◌≡◌, ℕ, ◌+◌, ◌-◌, ◌^◌, min, Bool, false, ◌&&◌, ◌||◌, ◌==◌, nat_lt, List, ◌++◌, length, take, drop, map, slice_index_or, Some, is_none, ⊤}
+use Rattle.std.specs.Prelude.{◌≡◌, ℕ, ◌+◌, ◌-◌, ◌^◌, min, Bool, false, true, ◌&&◌, ◌||◌, ◌<◌, ◌≤◌, ◌==◌, nat_lt, List, ◌++◌, length, take, drop, map, slice_index_or, Some, is_none}
 use Rattle.std.specs.List.{list_any}
 use Rattle.dimacs.specs.declared.fault.Code.TheVariants.{BadLine}
 use Rattle.dimacs.specs.Commands.{is_refused}
+use Rattle.dimacs.specs.Content.{size_at}
 use Rattle.dimacs.specs.Faults.{Row, size_of, some_numeral}
 use Rattle.dimacs.specs.Numerals.{numeral}
 use Rattle.session_lines.specs.declared.tables.Listing.{Listing}
 use Rattle.session_lines.specs.declared.tables.Listing.TheVariants.{Numbers, Faulty, Unkept}
 use Rattle.session_lines.specs.declared.asked_tables.Table.{Table}
-use Rattle.session_lines.specs.Tables.{is_table_size, table_code}
+use Rattle.session_lines.specs.Tables.{is_table_size, numbers_of_table, table_code}
 
 -- a size as the program keeps it
 abbrev pub kept_size : List ℕ → ℕ
@@ -35,11 +36,24 @@ has_room sizes = nat_lt (length sizes) 2 || (is_sized sizes && nat_lt (length si
 abbrev pub is_whole : List ℕ → Bool
 is_whole sizes = is_sized sizes && (length sizes == numbers_by sizes)
 
--- the numbers are these; or the line has a fault, whatever follows; or no memory was given for them
+-- These are numerals; and where more than the two counts stand there they count a table, and no more stand there than it has.
+pub record AreInOrder (row : Row) : Type 0 where
+  pub numerals : list_any (λ field. is_none (numeral field)) row ≡ false
+  pub counted : 2 < length row → (is_table_size (size_at row 0) (size_at row 1) ≡ true) × (length row ≤ numbers_of_table row)
+
+-- Some first ones of these, one or more, are in order.
+pub record BeginInOrder (row : Row) : Type 0 where
+  pub front : Row
+  pub rest : Row
+  pub row_is : row ≡ front ++ rest
+  pub some : 0 < length front
+  pub in_order : AreInOrder front
+
+-- the numbers are these; or the line has a fault, whatever follows; or no memory was given for a number, up to which they are in order
 abbrev pub IsListing : Row → Listing → Type 0
 IsListing row (Numbers sizes refused) = AreListed row sizes.items refused
 IsListing row Faulty = (more : Row) → table_code (row ++ more) ≡ Some BadLine
-IsListing row Unkept = ⊤
+IsListing row Unkept = BeginInOrder row
 
 -- the sources and the targets of a table that was read
 abbrev pub sources_of : Table → List ℕ

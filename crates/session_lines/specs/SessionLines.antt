@@ -16,7 +16,7 @@ use Rattle.session_lines.specs.declared.lines.Line.TheVariants.{Ignored, Command
 use Rattle.rows.specs.declared.nearby.Near.TheVariants.{Reach, Reached, Nearest}
 use Rattle.printing.specs.declared.looks.Look.TheVariants.{Arc, Between, Landmarks, Closed}
 use Rattle.session_lines.specs.declared.names.Name.{Name}
-use Rattle.session_lines.specs.Listings.{sources_of, targets_of}
+use Rattle.session_lines.specs.Listings.{sources_of, targets_of, BeginInOrder}
 use Rattle.session_lines.specs.Names.{copy_of}
 use Rattle.session_lines.specs.Tables.{is_table, sources_in, table_code, targets_in}
 
@@ -77,7 +77,8 @@ pub record AsksForTable (row : Row) (sources targets : List ℕ) : Type 0 where
   pub sources_are : sources ≡ sources_in (item_fields row)
   pub targets_are : targets ≡ targets_in (item_fields row)
 
--- The line asks for nothing, or for this, or has this fault, and that one within a group. Of a line `table` for whose numbers no memory was given no more is said.
+-- The line asks for nothing, or for this, or has this fault, and that one within a group. Of a line `table` for one of whose numbers no memory was given
+-- it is said that the numbers up to that one are in order.
 abbrev pub IsLine : Row → Line → Type 0
 IsLine row Ignored = (is_empty row || is_remark 35 row) ≡ true
 IsLine row (Refused code grouped) = (session_code row ≡ Some code) × (grouped_code row ≡ Some grouped)
@@ -86,7 +87,7 @@ IsLine row (Query query) = AsksFor row (Query query)
 IsLine row (Look look) = AsksFor row (Look look)
 IsLine row (Near near) = AsksFor row (Near near)
 IsLine row (Table table) = AsksForTable row (sources_of table) (targets_of table)
-IsLine row Unkept = is_table row ≡ true
+IsLine row Unkept = (is_table row ≡ true) × BeginInOrder (item_fields row)
 IsLine row (Copy name) = copy_of row ≡ Some (name_of name)
 IsLine row Wait = AsksFor row Wait
 IsLine row (Until number) = AsksFor row (Until number)

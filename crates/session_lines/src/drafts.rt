@@ -1,4 +1,4 @@
-//! The group that lines of a session are in.
+//! The group in which lines of a session are.
 ghost use Rattle.std.specs.Prelude.{MatchResult};
 ghost use Rattle.session_lines.specs.Drafts.{Drafted, no_draft, with_fault, with_command, with_line, IsDraft, IsNoGroup, IsWhole};
 
@@ -7,23 +7,23 @@ use dimacs::Code;
 use roadnet::{Command, Group, MOST_OF_GROUP};
 use std::alloc::Global;
 
-/// What the lines of a group say, as far as they came. It takes 32 bytes a command.
+/// What the lines of a group say so far. It takes 32 bytes a command.
 #[derive(Drop)]
 pub enum Draft {
     /// These commands, and no line has a fault.
     Whole(Vec<Command>),
-    /// So many commands, for one of which no memory was given, and no line has a fault.
+    /// So many commands, and no line has a fault. There was no memory for one of them.
     Unkept(usize),
-    /// The first line that has a fault has this one.
+    /// The fault of the first line that has one.
     Faulty(Code),
 }
 
 /// Why lines give no group.
 #[derive(Clone, Copy)]
 pub enum NoGroup {
-    /// A line has this fault, or they have no command (`GroupSize`).
+    /// A line has this fault, or there is no command (`GroupSize`).
     Fault(Code),
-    /// No memory was given for their commands.
+    /// There was no memory for the commands.
     NoMemory,
 }
 
@@ -42,14 +42,14 @@ fn added(mut commands: Vec<Command>, command: Command) -> Draft
 }
 
 impl Draft {
-    /// No line came.
+    /// No line so far.
     pub fn new(alloc: Global) -> Draft
         ensures { IsDraft no_draft result }
     {
         Draft::Whole(Vec::new(alloc))
     }
 
-    /// With a line that has this fault.
+    /// With one more line, which has this fault.
     fn faulty(self, code: Code) -> Draft
         ensures { (draft : Drafted) → IsDraft draft self → IsDraft (with_fault draft code) result }
     {
@@ -60,7 +60,7 @@ impl Draft {
         }
     }
 
-    /// With one command more. A 254th is a fault (`GroupSize`).
+    /// With one more command. A 254th is a fault (`GroupSize`).
     fn and(self, command: Command) -> Draft
         ensures { (draft : Drafted) → IsDraft draft self → IsDraft (with_command draft command) result }
     {
@@ -76,7 +76,7 @@ impl Draft {
         }
     }
 
-    /// With one line more, which doesn't end the group. No line belongs there but commands and lines that ask for nothing.
+    /// With one more line that does not end the group. Only commands, and lines that ask for nothing, may be in it.
     pub fn with(self, line: Line) -> Draft
         ensures { (draft : Drafted) → IsDraft draft self → IsDraft (with_line draft line) result }
     {

@@ -1,35 +1,35 @@
-//! Fields where numbers stand, taken byte by byte: none of their bytes is kept.
+//! Fields for numbers, taken byte by byte: none of their bytes is kept.
 ghost use Rattle.std.specs.Prelude.{◌≡◌, ◌≢◌, ◌∷◌, ◌++◌, [], List, ℕ, Some, false, MatchOption};
 ghost use Rattle.dimacs.specs.Faults.{Row};
 ghost use Rattle.session_lines.specs.Fields.{IsField, IsNumbers, HasDigits, signed_field, number_of, as_row, has_one, has_two, has_three};
 
 use dimacs::Numeral;
 
-/// A field where a number stands, as far as it came.
+/// A field for a number, as far as it has come.
 #[derive(Clone, Copy)]
 pub enum Field {
-    /// No byte of it came.
+    /// No byte of it has come.
     Unbegun,
     /// A minus.
     Minus,
-    /// A numeral, which more digits may follow.
+    /// A numeral, which may continue.
     Number(Numeral),
     /// No numeral, whatever follows.
     Other,
 }
 
-/// The fields behind a word that are whole, each as the numeral that it is, if it is one.
+/// The complete fields after a word, each as the numeral that it is, if it is one.
 #[derive(Clone, Copy)]
 pub enum Numbers {
     Nothing,
     One(Option<Numeral>),
     Two(Option<Numeral>, Option<Numeral>),
     Three(Option<Numeral>, Option<Numeral>, Option<Numeral>),
-    /// More than any word has behind it.
+    /// More than follow any word.
     TooMany,
 }
 
-/// What digits of this size with one more byte are, behind a minus or without one.
+/// What digits of this size, after a minus or without one, become with one more byte.
 fn with_digit(has_minus: bool, size: u64, byte: u8) -> Field
     ensures { (digits : List ℕ) → HasDigits digits size → (signed_field has_minus digits ≡ [] → byte ≢ 45)
         → IsField (signed_field has_minus (digits ++ byte ∷ [])) result }
@@ -79,7 +79,7 @@ impl Numbers {
         }
     }
 
-    /// These, and the field that ends here, if one was begun.
+    /// These, and the field that ends here, if it has begun.
     pub fn ended(self, field: Field) -> Numbers
         ensures { (row : Row) (last : List ℕ) → IsNumbers row self → IsField last field → IsNumbers (row ++ as_row last) result }
     {

@@ -9,7 +9,7 @@ use crate::words::{Word, is_copy, is_table, word_of};
 /// The most bytes that a word has.
 const LONGEST_WORD: usize = 9;
 
-/// The bytes of a line's first field, as many as a word may have.
+/// The bytes of a line's first field, at most as many as a word may have.
 #[derive(Clone, Copy)]
 pub struct Letters {
     bytes: [u8; LONGEST_WORD],
@@ -27,7 +27,7 @@ impl Letters {
         Letters { bytes, count: 1 }
     }
 
-    /// One letter more, where a word has so many.
+    /// With one more letter, if a word may have so many.
     pub fn with(self, byte: u8) -> Option<Letters>
         ensures { MatchOption result (self.count ≡ 9) (λ more. take more.count more.bytes ≡ take self.count self.bytes ++ byte ∷ []) }
     {
@@ -49,14 +49,14 @@ impl Letters {
         word_of(&self.bytes[..self.count])
     }
 
-    /// Whether they spell `copy`, behind which a name stands.
+    /// Whether they spell `copy`, which is followed by a name.
     pub fn are_copy(&self) -> bool
         ensures { result ≡ bytes_eq (take self.now.count self.now.bytes) (codes "copy") }
     {
         is_copy(&self.bytes[..self.count])
     }
 
-    /// Whether they spell `table`, behind which as many numbers stand as the first two of them say.
+    /// Whether they spell `table`, which is followed by as many numbers as the first two of them say.
     pub fn are_table(&self) -> bool
         ensures { result ≡ bytes_eq (take self.now.count self.now.bytes) (codes "table") }
     {

@@ -13,6 +13,6 @@ mod words;
 
 pub use asked_tables::Table;
 pub use drafts::{Draft, NoGroup};
-pub use lines::{Line, is_end, is_quit, is_suppose};
+pub use lines::{Line, is_end, is_quit};
 pub use names::Name;
 pub use reading::{LastLine, next_line};

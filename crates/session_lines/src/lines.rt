@@ -1,4 +1,4 @@
-//! The lines of a session, judged byte by byte: of the bytes of a line none is kept but those of a word and of a name, and the numbers of a table.
+//! The lines of a session, judged byte by byte. Of a line only a word, a name, and the numbers of a table are kept.
 ghost use Rattle.std.specs.Prelude.{◌≡◌, ◌||◌, ◌∷◌, ◌++◌, [], List, ℕ, Some, true, false};
 ghost use Rattle.std.specs.Bool.{Decides};
 ghost use Rattle.std.specs.Io.BufRead.{strip_last};
@@ -34,19 +34,19 @@ pub enum Line {
     Query(Query),
     /// What the network has.
     Look(Look),
-    /// The nodes near one.
+    /// The nodes near a node.
     Near(Near),
     /// The lengths of all pairs of sources and targets.
     Table(Table),
-    /// A table, for whose numbers no memory was given.
+    /// A table for whose numbers there was no memory.
     Unkept,
-    /// A copy of the network is to be made under this name.
+    /// A copy of the network, under this name.
     Copy(Name),
-    /// The session's last accepted command is to be shown.
+    /// To wait until the session's last accepted command is shown.
     Wait,
-    /// This version is to be shown.
+    /// To wait until this version is shown.
     Until(u64),
-    /// How the desk stands.
+    /// The state of the desk.
     State,
     /// A group begins that is to be supposed.
     Suppose,
@@ -57,11 +57,11 @@ pub enum Line {
     Begin,
     /// The group ends.
     End,
-    /// It has this fault where it stands alone, and that one within a group: 1 BadLine or 5 NumberRange.
+    /// It has the first fault if it is alone, and the second within a group: 1 BadLine or 5 NumberRange.
     Refused { code: Code, grouped: Code },
 }
 
-/// A line that is no line wherever it stands (1).
+/// A line that is a bad line everywhere (1).
 pub fn bad_line() -> Line
     ensures { (row : Row) → session_code row ≡ Some bad_line → IsLine row result }
 {
@@ -85,40 +85,33 @@ pub fn is_end(line: &Line) -> bool
     matches!(line, Line::End)
 }
 
-/// Whether with a line a group begins that is to be supposed.
-pub fn is_suppose(line: &Line) -> bool
-    ensures { Decides result (line.now ≡ Line.Suppose) }
-{
-    matches!(line, Line::Suppose)
-}
-
-/// How far a line came, by what it asks for.
+/// How far a line has come, by what it asks for.
 #[derive(Drop)]
 pub enum Stage {
-    /// Blanks alone.
+    /// Only blanks.
     Blank,
-    /// The first field, which may go on.
+    /// The first field, which may continue.
     Beginning(Letters),
     /// A comment, whatever follows.
     Remark,
     /// No line of a session, whatever follows.
     Unknown,
-    /// Behind a word: the fields that are whole, and the one that may go on.
+    /// After a word: the complete fields, and the one that may continue.
     Behind {
         word: Word,
         numbers: Numbers,
         field: Field,
     },
-    /// Behind `table`: the numbers that are whole, and the one that may go on.
+    /// After `table`: the complete numbers, and the one that may continue.
     Listing {
         listing: Listing,
         field: Field,
     },
-    /// Behind `copy`, and no byte of a name came.
+    /// After `copy`, before any byte of a name.
     Unnamed,
-    /// Behind `copy`: the name, which may go on.
+    /// After `copy`: the name, which may continue.
     Naming(Name),
-    /// Behind `copy` and a whole name.
+    /// After `copy` and a complete name.
     Named(Name),
 }
 
@@ -196,7 +189,7 @@ fn two_line(word: Two, first: u64, second: u64) -> Line
     }
 }
 
-/// What a word asks for that stands alone.
+/// What a word without numbers asks for.
 fn read_bare(word: Bare, numbers: Numbers) -> Line
     ensures { (row : Row) → IsNumbers row numbers → IsLine (spelling (Word.WithNone word) ∷ row) result }
 {
@@ -209,7 +202,7 @@ fn read_bare(word: Bare, numbers: Numbers) -> Line
     }
 }
 
-/// What a word asks for that has one number behind it.
+/// What a word with one number after it asks for.
 fn read_one(word: One, numbers: Numbers) -> Line
     ensures { (row : Row) → IsNumbers row numbers → IsLine (spelling (Word.WithOne word) ∷ row) result }
 {
@@ -225,7 +218,7 @@ fn read_one(word: One, numbers: Numbers) -> Line
     one_line(word, number.size)
 }
 
-/// What a word asks for that has two numbers behind it.
+/// What a word with two numbers after it asks for.
 fn read_two(word: Two, numbers: Numbers) -> Line
     ensures { (row : Row) → IsNumbers row numbers → IsLine (spelling (Word.WithTwo word) ∷ row) result }
 {
@@ -248,7 +241,7 @@ fn is_one_refused(first: Numeral, second: Numeral, third: Numeral) -> bool
     first.is_refused() || (second.is_refused() || third.is_refused())
 }
 
-/// What `lay` asks for, with the tail, the head and the length behind it.
+/// What `lay` asks for, given the tail, the head and the length after it.
 fn read_lay(numbers: Numbers) -> Line
     ensures { (row : Row) → IsNumbers row numbers → IsLine (spelling Word.Lay ∷ row) result }
 {
@@ -268,7 +261,7 @@ fn read_lay(numbers: Numbers) -> Line
     })
 }
 
-/// What a line asks for, by its word and what stands behind it.
+/// What a line asks for, given its word and what follows it.
 fn read_line(word: Word, numbers: Numbers) -> Line
     ensures { (row : Row) → IsNumbers row numbers → IsLine (spelling word ∷ row) result }
 {
@@ -280,7 +273,7 @@ fn read_line(word: Word, numbers: Numbers) -> Line
     }
 }
 
-/// A line that begins with this byte, which is no blank.
+/// A line that begins with this byte, which is not a blank.
 fn beginning(byte: u8) -> Stage
     requires { is_blank byte ≡ false }
     ensures { (front : List ℕ) → IsStage front Stage.Blank → IsStage (front ++ byte ∷ []) result }
@@ -291,7 +284,7 @@ fn beginning(byte: u8) -> Stage
     Stage::Beginning(Letters::one(byte))
 }
 
-/// A line whose first field goes on with this byte.
+/// A line whose first field continues with this byte.
 fn going_on(letters: Letters, byte: u8) -> Stage
     requires { is_blank byte ≡ false }
     ensures { (front : List ℕ) → IsStage front (Stage.Beginning letters) → IsStage (front ++ byte ∷ []) result }
@@ -302,7 +295,7 @@ fn going_on(letters: Letters, byte: u8) -> Stage
     }
 }
 
-/// A line whose first field is whole.
+/// A line whose first field is complete.
 fn behind(alloc: Global, letters: Letters, blank: u8) -> Stage
     requires { is_blank blank ≡ true }
     ensures { (front : List ℕ) → IsStage front (Stage.Beginning letters) → IsStage (front ++ blank ∷ []) result }
@@ -326,7 +319,7 @@ fn behind(alloc: Global, letters: Letters, blank: u8) -> Stage
     }
 }
 
-/// A line that goes on behind its word.
+/// A line that continues after its word.
 fn with_field(word: Word, numbers: Numbers, field: Field, byte: u8) -> Stage
     ensures { (front : List ℕ) → IsStage front (Stage.Behind word numbers field) → IsStage (front ++ byte ∷ []) result }
 {
@@ -344,7 +337,7 @@ fn with_field(word: Word, numbers: Numbers, field: Field, byte: u8) -> Stage
     }
 }
 
-/// A line `table` that goes on behind its word.
+/// A line `table` that continues after its word.
 fn with_number(listing: Listing, field: Field, byte: u8) -> Stage
     ensures { (front : List ℕ) → IsStage front (Stage.Listing listing field) → IsStage (front ++ byte ∷ []) result }
 {
@@ -360,7 +353,7 @@ fn with_number(listing: Listing, field: Field, byte: u8) -> Stage
     }
 }
 
-/// What a line `table` asks for that ends here.
+/// What a line `table` that ends here asks for.
 fn listed_line(listing: Listing, field: Field) -> Line
     ensures { (front : List ℕ) → IsStage front (Stage.Listing listing field) → IsLine (fields front) result }
 {
@@ -368,7 +361,7 @@ fn listed_line(listing: Listing, field: Field) -> Line
     listing.line()
 }
 
-/// A line `copy` whose name begins with this byte, which is no blank.
+/// A line `copy` whose name begins with this byte, which is not a blank.
 fn naming(byte: u8) -> Stage
     requires { is_blank byte ≡ false }
     ensures { (front : List ℕ) → IsStage front Stage.Unnamed → IsStage (front ++ byte ∷ []) result }
@@ -379,7 +372,7 @@ fn naming(byte: u8) -> Stage
     Stage::Unknown
 }
 
-/// A line `copy` whose name goes on with this byte, which is no blank.
+/// A line `copy` whose name continues with this byte, which is not a blank.
 fn naming_on(name: Name, byte: u8) -> Stage
     requires { is_blank byte ≡ false }
     ensures { (front : List ℕ) → IsStage front (Stage.Naming name) → IsStage (front ++ byte ∷ []) result }
@@ -393,7 +386,7 @@ fn naming_on(name: Name, byte: u8) -> Stage
     }
 }
 
-/// A line `copy` with a name that goes on with this byte.
+/// A line `copy` with a name that continues with this byte.
 fn with_name(name: Name, byte: u8) -> Stage
     ensures { (front : List ℕ) → IsStage front (Stage.Naming name) → IsStage (front ++ byte ∷ []) result }
 {
@@ -403,7 +396,7 @@ fn with_name(name: Name, byte: u8) -> Stage
     naming_on(name, byte)
 }
 
-/// A line `copy` with a whole name that goes on with this byte: no other field may follow.
+/// A line `copy` with a complete name that continues with this byte. No other field may follow.
 fn behind_name(name: Name, byte: u8) -> Stage
     ensures { (front : List ℕ) → IsStage front (Stage.Named name) → IsStage (front ++ byte ∷ []) result }
 {
@@ -414,7 +407,7 @@ fn behind_name(name: Name, byte: u8) -> Stage
 }
 
 impl Stage {
-    /// The line with one more byte. It takes memory for the numbers of a table alone.
+    /// The line with one more byte. It only takes memory for the numbers of a table.
     fn with(self, alloc: Global, byte: u8) -> Stage
         ensures { (front : List ℕ) → IsStage front self → IsStage (front ++ byte ∷ []) result }
     {
@@ -453,7 +446,7 @@ impl Stage {
         }
     }
 
-    /// What the line asks for that ends here.
+    /// What the line asks for if it ends here.
     fn line(self) -> Line
         ensures { (front : List ℕ) → IsStage front self → IsLine (fields front) result }
     {
@@ -478,16 +471,16 @@ impl Stage {
     }
 }
 
-/// A line as far as it came: however long it is, it takes a few bytes and no memory, but for the numbers of a table.
+/// A line as far as it has come: however long it is, it takes a few bytes, and memory only for the numbers of a table.
 #[derive(Drop)]
 pub struct LineSoFar {
     stage: Stage,
-    /// A carriage return came last, which is no part of the line where the line ends behind it.
+    /// The last byte was a carriage return, which is not part of the line if the line ends after it.
     after_return: bool,
 }
 
 impl LineSoFar {
-    /// No byte came.
+    /// No byte so far.
     pub fn new() -> LineSoFar
         ensures { IsSoFar [] result }
     {
@@ -497,7 +490,7 @@ impl LineSoFar {
         }
     }
 
-    /// How far the line came with all its bytes, also with a carriage return at their end.
+    /// How far the line has come with all its bytes, including a carriage return at the end.
     fn settled(self, alloc: Global) -> Stage
         ensures { (front : List ℕ) → IsSoFar front self → IsStage front result }
     {
@@ -507,7 +500,7 @@ impl LineSoFar {
         self.stage
     }
 
-    /// The line with one more byte, which is no line feed.
+    /// The line with one more byte, which is not a line feed.
     pub fn with(self, alloc: Global, byte: u8) -> LineSoFar
         ensures { (front : List ℕ) → IsSoFar front self → IsSoFar (front ++ byte ∷ []) result }
     {
@@ -524,7 +517,7 @@ impl LineSoFar {
         }
     }
 
-    /// What the line asks for that ends here.
+    /// What the line asks for if it ends here.
     pub fn line(self) -> Line
         ensures { (front : List ℕ) → IsSoFar front self → IsLine (fields (strip_last 13 front)) result }
     {

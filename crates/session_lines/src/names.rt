@@ -5,7 +5,7 @@ ghost use Rattle.session_lines.specs.Names.{is_name, is_name_byte};
 /// The most bytes that a name has.
 const LONGEST_NAME: usize = 64;
 
-/// Whether a byte may stand in a name: a letter, a digit, `-` or `_`.
+/// Whether a byte may be in a name: a letter, a digit, `-` or `_`.
 pub fn is_name_byte(byte: u8) -> bool
     ensures { result ≡ is_name_byte byte }
 {
@@ -32,7 +32,7 @@ impl Name {
         Name { bytes, count: 1 }
     }
 
-    /// One byte more, where a name has so many.
+    /// With one more byte, if a name may have so many.
     pub fn with(self, byte: u8) -> Option<Name>
         requires { is_name_byte byte ≡ true }
         ensures { MatchOption result (self.count ≡ 64) (λ more. take more.count more.bytes ≡ take self.count self.bytes ++ byte ∷ []) }

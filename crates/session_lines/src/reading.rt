@@ -9,17 +9,17 @@ use std::alloc::Global;
 use std::io::BufRead;
 use std::sync::Wait;
 
-/// What becomes of a last line that no line feed ends.
+/// What to do with a last line that no line feed ends.
 #[derive(Clone, Copy, Debug, PartialEq, Eq)]
 pub enum LastLine {
-    /// It is carried out as any other: who wrote the text wrote the whole of it, as to standard input.
+    /// It is carried out as any other: whoever wrote the text wrote all of it, for example to standard input.
     Taken,
-    /// It is not carried out: who sends by a pipe may be cut off in it, and `set 1 900` then reads `set 1 9`.
+    /// It is not carried out: a client that sends through a pipe may be cut off in it, and then `set 1 900` reads as `set 1 9`.
     Dropped,
 }
 
-/// What the next line asks for; none where there is no more line. The one error is a failed call of the reader. Memory is taken
-/// for the numbers of a table alone.
+/// What the next line asks for; nothing if there is no further line. The only error is a failed call of the reader. It only takes memory for the numbers of
+/// a table.
 pub fn next_line<R: Wait, I: BufRead>(
     rt: &R,
     alloc: Global,

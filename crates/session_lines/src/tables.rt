@@ -28,7 +28,7 @@ impl Table {
         nodes.split_at(self.sources)
     }
 
-    /// The pairs of each source with each target, source by source. The one error is want of memory, for 16 bytes a pair.
+    /// The pairs of each source with each target, source by source. The only error is lack of memory, for 16 bytes a pair.
     pub fn pairs(&self, alloc: Global) -> Result<Vec<(u64, u64)>, OutOfMemory>
         ensures { IfOk result (λ pairs. pairs.items ≡ pairs_of (sources_of self.now) (targets_of self.now)) }
     {
@@ -54,14 +54,14 @@ fn add_pairs(pairs: &mut Vec<(u64, u64)>, source: u64, targets: &[u64]) -> Resul
     Ok(())
 }
 
-/// Whether so many sources and targets make a table.
+/// Whether so many sources and targets may be a table.
 fn is_table_size(sources: u64, targets: u64) -> bool
     ensures { result ≡ is_table_size sources targets }
 {
     1 <= sources && (1 <= targets && sources.saturating_mul(targets) <= MOST_PAIRS)
 }
 
-/// The number at a place, or 0 where there is none.
+/// The number at a place, or 0 if there is none.
 fn number_at(sizes: &[u64], place: usize) -> u64
     ensures { result ≡ slice_index_or sizes.now place 0 }
 {
@@ -71,7 +71,7 @@ fn number_at(sizes: &[u64], place: usize) -> u64
     }
 }
 
-/// How many numbers a table has whose first ones are these.
+/// How many numbers a table has that begins with these.
 fn numbers_by(sizes: &[u64]) -> u64
     ensures { result ≡ min (numbers_by sizes.now) 18446744073709551615 }
 {
@@ -79,14 +79,14 @@ fn numbers_by(sizes: &[u64]) -> u64
     sources.saturating_add(targets).saturating_add(2)
 }
 
-/// Whether the counts at the front of these are those of a table.
+/// Whether the counts at the beginning of these are those of a table.
 fn is_sized(sizes: &[u64]) -> bool
     ensures { result ≡ is_sized sizes.now }
 {
     is_table_size(number_at(sizes, 0), number_at(sizes, 1))
 }
 
-/// Whether one number more may follow these.
+/// Whether one more number may follow these.
 fn has_room(sizes: &[u64]) -> bool
     ensures { result ≡ has_room sizes.now }
 {
@@ -100,14 +100,14 @@ fn is_whole(sizes: &[u64]) -> bool
     is_sized(sizes) && sizes.len() as u64 == numbers_by(sizes)
 }
 
-/// The numbers behind `table`, as far as they came: 8 bytes a number.
+/// The numbers after `table` so far: 8 bytes a number.
 #[derive(Drop)]
 pub enum Listing {
     /// The sizes of these numerals, and whether one of them is refused.
     Numbers { sizes: Vec<u64>, refused: bool },
-    /// A field is no numeral, or they are too many, or their counts are none of a table, whatever follows.
+    /// A field is no numeral, there are too many, or the counts cannot be those of a table, whatever follows.
     Faulty,
-    /// No memory was given for one of them.
+    /// There was no memory for one of them.
     Unkept,
 }
 
@@ -118,7 +118,7 @@ fn is_refused_with(refused: bool, number: Numeral) -> bool
     refused || number.is_refused()
 }
 
-/// These numbers, and one more, where that may follow.
+/// These numbers and one more, if it may follow.
 fn with_number(mut sizes: Vec<u64>, refused: bool, number: Numeral) -> Listing
     ensures { (row : Row) (field : List ℕ) → AreListed row sizes.items refused → Some number ≡ number_of field → IsListing (row ++ field ∷ []) result }
 {
@@ -134,7 +134,7 @@ fn with_number(mut sizes: Vec<u64>, refused: bool, number: Numeral) -> Listing
     }
 }
 
-/// What a line asks for whose numbers are these.
+/// What a line with these numbers asks for.
 fn line_of(sizes: Vec<u64>, refused: bool) -> Line
     ensures { (row : Row) → AreListed row sizes.items refused → IsLine (codes "table" ∷ row) result }
 {
@@ -155,7 +155,7 @@ fn line_of(sizes: Vec<u64>, refused: bool) -> Line
 }
 
 impl Listing {
-    /// No field came.
+    /// No field so far.
     pub fn new(alloc: Global) -> Listing
         ensures { IsListing [] result }
     {
@@ -179,7 +179,7 @@ impl Listing {
         }
     }
 
-    /// With the field that ends here, if one was begun.
+    /// With the field that ends here, if it has begun.
     pub fn ended(self, field: Field) -> Listing
         ensures { (row : Row) (last : List ℕ) → IsListing row self → IsField last field → IsListing (row ++ as_row last) result }
     {
@@ -191,7 +191,7 @@ impl Listing {
         }
     }
 
-    /// What the line asks for that ends here.
+    /// What the line asks for if it ends here.
     pub fn line(self) -> Line
         ensures { (row : Row) → IsListing row self → IsLine (codes "table" ∷ row) result }
     {

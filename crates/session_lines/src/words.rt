@@ -8,7 +8,7 @@ ghost use Rattle.session_lines.specs.Spelled.{bare_spelling, bare_words, one_spe
 
 use dimacs::{Code, OneNumber, TwoNumbers, word_of_one, word_of_two};
 
-/// A word with no field behind it.
+/// A word with no field after it.
 #[derive(Clone, Copy)]
 pub enum Bare {
     Wait,
@@ -22,7 +22,7 @@ pub enum Bare {
     Forget,
 }
 
-/// A word with one number behind it.
+/// A word with one number after it.
 #[derive(Clone, Copy)]
 pub enum One {
     /// That of a command.
@@ -31,7 +31,7 @@ pub enum One {
     Until,
 }
 
-/// A word with two numbers behind it.
+/// A word with two numbers after it.
 #[derive(Clone, Copy)]
 pub enum Two {
     /// That of a command or of a query.
@@ -43,7 +43,7 @@ pub enum Two {
 }
 
 impl One {
-    /// The code, within a group, of a line of this word whose number is out of range: that of a command has 5, each other line 1.
+    /// The code, within a group, of a line with this word whose number is out of range: 5 for a command, 1 for any other line.
     pub fn out_of_range(self) -> Code
         ensures { result ≡ one_out_of_range self }
     {
@@ -56,7 +56,7 @@ impl One {
 }
 
 impl Two {
-    /// The same of a line with two numbers.
+    /// The same for a line with two numbers.
     pub fn out_of_range(self) -> Code
         ensures { result ≡ two_out_of_range self }
     {
@@ -73,13 +73,13 @@ impl Two {
     }
 }
 
-/// A word by the numbers that stand behind it.
+/// A word by the numbers that follow it.
 #[derive(Clone, Copy)]
 pub enum Word {
     WithNone(Bare),
     WithOne(One),
     WithTwo(Two),
-    /// `lay`, with three numbers behind it.
+    /// `lay`, with three numbers after it.
     Lay,
 }
 
@@ -121,7 +121,7 @@ fn two_of_session(field: &[u8]) -> Option<Two>
     None
 }
 
-/// The word alone that a field spells.
+/// The word without numbers that a field spells.
 fn bare_of_session(field: &[u8]) -> Option<Bare>
     ensures { result ≡ spelled_word bare_spelling bare_words field.now }
 {
@@ -155,21 +155,21 @@ fn bare_of_session(field: &[u8]) -> Option<Bare>
     None
 }
 
-/// Whether a field spells `copy`, behind which a name stands and no number.
+/// Whether a field spells `copy`, which is followed by a name and no number.
 pub fn is_copy(field: &[u8]) -> bool
     ensures { result ≡ bytes_eq field.now (codes "copy") }
 {
     field == b"copy".as_slice()
 }
 
-/// Whether a field spells `table`, behind which as many numbers stand as the first two of them say.
+/// Whether a field spells `table`, which is followed by as many numbers as the first two of them say.
 pub fn is_table(field: &[u8]) -> bool
     ensures { result ≡ bytes_eq field.now (codes "table") }
 {
     field == b"table".as_slice()
 }
 
-/// The word that a field spells, behind which a certain count of numbers stands.
+/// The word that a field spells, if it is followed by a certain number of numbers.
 pub fn word_of(field: &[u8]) -> Option<Word>
     ensures { result ≡ word_from field.now }
 {

@@ -5,5 +5,6 @@ pub mod Headings
 pub mod Nearby
 pub mod Supposing
 pub mod Turns
+pub mod Saying
 pub mod Clients
 pub mod Past

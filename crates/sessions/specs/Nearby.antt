@@ -1,6 +1,5 @@
 -- What lines about the nodes near one, and about tables, are told.
-use Rattle.std.specs.Prelude.{◌≡◌, ◌⊎◌, ℕ, ◌+◌, true, List, ◌++◌, length, Option, Some}
-use Rattle.std.specs.Io.KnownBytes.{Appends}
+use Rattle.std.specs.Prelude.{◌≡◌, ◌⊎◌, ℕ, ◌+◌, true, List, ◌++◌, length, Some}
 use Rattle.roadnet.specs.declared.groups.Group.{Group}
 use Rattle.roadnet.specs.declared.refusals.Refusal.{Refusal}
 use Rattle.roadnet.specs.Net.{Net}
@@ -42,7 +41,3 @@ abbrev pub IsToldAfter : Origin → List Group → (Net → ℕ → List ℕ →
 IsToldAfter origin groups IsAnswer told =
     ((network : Net) × (after origin.base groups ≡ Some network) × IsAnswer network (origin.version + length groups) told)
     ⊎ ((refusal : Refusal) × IsNoReader refusal × (told ≡ refusal_line (number_of refusal)))
-
--- the writer has such an answer in this network at this version, and no more
-abbrev pub WritesSo : (Net → ℕ → List ℕ → Type 0) → Net → ℕ → Option (List ℕ) → Option (List ℕ) → Type 0
-WritesSo IsAnswer net version old new = (told : List ℕ) × IsAnswer net version told × Appends old new told

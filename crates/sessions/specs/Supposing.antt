@@ -4,8 +4,7 @@
 --     IsReplyIn supposed query told                  the lines of a right reply in what is supposed
 --     IsNearIn supposed near told                    the lines of what is near a node there
 --     IsTableIn supposed sources targets told        the lines of a table there
-use Rattle.std.specs.Prelude.{◌≡◌, ◌⊎◌, ℕ, ◌+◌, true, List, ◌++◌, All, length, Option, Some, Result, Ok, Err}
-use Rattle.std.specs.Io.KnownBytes.{Appends}
+use Rattle.std.specs.Prelude.{◌≡◌, ◌⊎◌, ℕ, ◌+◌, true, List, ◌++◌, All, length, Some, Result, Ok, Err}
 use lib.Chars.{codes}
 use Rattle.history.specs.Origins.{Origin}
 use Rattle.roadnet.specs.declared.groups.Group.{Group}
@@ -49,10 +48,6 @@ pub record RefusesAfter (origin : Origin) (groups : List Group) (group : Group) 
 -- why nothing is supposed: that, or that there is no view to look at (60, 11, 61)
 abbrev pub IsUnsupposed : Origin → List Group → Group → Refusal → Type 0
 IsUnsupposed origin groups group refusal = RefusesAfter origin groups group refusal ⊎ IsNoReader refusal
-
--- the writer has bytes more that are as this says
-abbrev pub IsToldSo : (List ℕ → Type 0) → Option (List ℕ) → Option (List ℕ) → Type 0
-IsToldSo Is old new = (told : List ℕ) × Is told × Appends old new told
 
 -- `suppose V`
 abbrev pub suppose_line : ℕ → List ℕ

@@ -1,5 +1,6 @@
 -- What a session is told by its desk, and what it tells.
 use Rattle.std.specs.Prelude.{◌≡◌, ◌⊎◌, ℕ, ◌+◌, ◌≤◌, true, false, List, [], ◌∷◌, ◌++◌, length, All, Option, None, Some, Result, Ok, Err, ⊤}
+use mathlib.Core.List.{IsPrefix}
 use Rattle.roadnet.specs.declared.groups.Group.{Group}
 use Rattle.roadnet.specs.declared.refusals.Refusal.{Refusal}
 use Rattle.roadnet.specs.declared.refusals.Refusal.TheVariants.{Read, Write}
@@ -16,7 +17,7 @@ use Rattle.machine.specs.Laws.{IsAt}
 use Rattle.history.specs.Claims.{Claimed, IsAcknowledgedIn}
 use Rattle.history.specs.Origins.{Origin, Beginning}
 use Rattle.desk.specs.Readings.{IsNoReader}
-use Rattle.desk.specs.Turns.{IsRefusedAfter, IsUnreached, IsUnserved}
+use Rattle.desk.specs.Turns.{IsRefusedAfter, IsRefusedOn, IsUnreached, IsUnserved}
 use Rattle.dimacs.specs.Counts.{one_more_failed}
 use Rattle.printing.specs.declared.failed.Failed.{Failed}
 use Rattle.printing.specs.declared.failed.Failed.TheVariants.{Code}
@@ -24,8 +25,8 @@ use lib.Chars.{codes}
 use Rattle.printing.specs.Printed.{refusal_line}
 use Rattle.printing.specs.Replied.{number_line}
 use Rattle.sessions.specs.Copying.{Copying, IsUnmade}
-use Rattle.sessions.specs.declared.answers.Accepted.{Accepted}
-use Rattle.sessions.specs.declared.answers.Accepted.TheVariants.{Settled, Unsettled}
+use Rattle.sessions.specs.declared.sessions.Accepted.{Accepted}
+use Rattle.sessions.specs.declared.sessions.Accepted.TheVariants.{Settled, Unsettled}
 use Rattle.printing.specs.declared.looks.Look.{Look}
 use Rattle.printing.specs.Looks.{look_lines}
 
@@ -47,6 +48,11 @@ numbered version (group ∷ groups) = record { number = version + 1; group = gro
 -- a beginning that has some groups goes on to one that has these too
 abbrev pub HasMore : Origin → Option Beginning → Option Beginning → List Ticket → Type 0
 HasMore origin old new durable = (tickets : List Ticket) → HaveReceipts origin old tickets → HaveReceipts origin new (tickets ++ durable)
+
+-- the same of all groups that are acknowledged in this beginning
+abbrev pub HasAllOf : Beginning → Option Beginning → Option Beginning → Type 0
+HasAllOf front old new =
+    (groups : List Group) → IsPrefix groups front.groups → front.origin.version + length groups ≤ front.acknowledged → HasMore front.origin old new (numbered front.origin.version groups)
 
 -- the session has a receipt of this desk for the group, with this number
 abbrev pub HasReceipt : Origin → Option Accepted → ℕ → Group → Type 0
@@ -91,6 +97,10 @@ pub record IsDeclined (origin : Origin) (had has : Option Beginning) (group : Gr
   pub durable : List Ticket
   pub turned_down : IsTurnedDown origin group refusal durable
   pub kept : HasMore origin had has durable
+
+-- Whichever group was refused for this, on this basis, is told that.
+abbrev pub IsDeclinedOn : Origin → Refusal → Option Beginning → Option Beginning → Option Beginning → Refusal → Type 0
+IsDeclinedOn origin refusal basis had has told = (group : Group) → IsRefusedOn origin group refusal basis → IsDeclined origin had has group told
 
 -- the answer is right in the desk's network after these groups, and names the version after them
 pub record AnswersAfter (origin : Origin) (groups : List Group) (query : Query) (answer : Answer) : Type 0 where

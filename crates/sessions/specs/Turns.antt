@@ -1,4 +1,7 @@
 -- What a session tells, line by line.
+--     SessionState                                              how a session is
+--     IsAnswer copying origin group line was is told durable    what it may tell to a line, and how it is then
+--     IsTurn · HasServed · Serves                               the next line · the lines so far · the whole of them
 use Rattle.std.specs.Prelude.{◌≡◌, ◌⊎◌, ℕ, Bool, true, false, List, [], ◌∷◌, ◌++◌, All, Option, None, Some, Result, Ok, Err, IfOk, IfErr, ⊤}
 use Rattle.std.specs.Io.KnownBytes.{Appends}
 use mathlib.Core.List.{IsPrefix}
@@ -8,6 +11,8 @@ use Rattle.roadnet.specs.declared.groups.Group.{Group}
 use Rattle.roadnet.specs.declared.refusals.Refusal.{Refusal}
 use Rattle.roadnet.specs.declared.refusals.Refusal.TheVariants.{Read, OutOfMemory, Closed}
 use Rattle.roadnet.specs.Numbers.{number_of}
+use Rattle.rows.specs.declared.nearby.Near.{Near}
+use Rattle.rows.specs.declared.queries.Query.{Query as Asked}
 use Rattle.machine.specs.declared.events.Replied.{Replied}
 use Rattle.machine.specs.declared.calls.Ticket.{Ticket}
 use Rattle.machine.specs.Laws.{IsAt}
@@ -19,21 +24,24 @@ use Rattle.printing.specs.declared.failed.Failed.{Failed}
 use Rattle.printing.specs.declared.failed.Failed.TheVariants.{Code as of_code}
 use Rattle.printing.specs.Printed.{version_line, refusal_line}
 use Rattle.printing.specs.Replied.{printed_reply}
-use Rattle.sessions.specs.declared.answers.Accepted.{Accepted}
+use Rattle.session_lines.specs.declared.asked_tables.Table.{Table as AskedTable}
 use Rattle.session_lines.specs.declared.lines.Line.{Line}
+use Rattle.session_lines.specs.declared.lines.Line.TheVariants.{Command as a_command, Query, Look as a_look, Near as a_near, Table as a_table, Unkept, Copy, Wait, Until, State, Quit, Begin, End, Refused, Suppose, Forget}
 use Rattle.session_lines.specs.declared.reading.LastLine.{LastLine}
-use Rattle.session_lines.specs.declared.lines.Line.TheVariants.{Ignored, Command as a_command, Query, Look as a_look, Near as a_near, Table as a_table, Unkept, Copy, Wait, Until, State, Quit, Begin, End, Refused, Suppose, Forget}
-use Rattle.sessions.specs.Copying.{Copying}
+use Rattle.session_lines.specs.Drafts.{Drafted, fault_of, no_draft, with_line}
 use Rattle.session_lines.specs.Listings.{sources_of, targets_of}
-use Rattle.sessions.specs.Nearby.{IsNearAnswer, IsTableAnswer, IsToldAfter}
+use Rattle.session_lines.specs.Reads.{ReadsOne, FailsInLine, ReadsLine}
 use Rattle.session_lines.specs.SessionLines.{is_quit, name_of}
 use Rattle.session_lines.specs.Tables.{pairs_of}
-use Rattle.session_lines.specs.Drafts.{Drafted, fault_of, next_draft, next_draft_beside, next_supposing}
-use Rattle.session_lines.specs.Reads.{ReadsOne, FailsInLine, ReadsLine}
+use Rattle.suppositions.specs.Supposing.{Supposition}
+use Rattle.sessions.specs.declared.sessions.Accepted.{Accepted}
+use Rattle.sessions.specs.declared.sessions.Purpose.{Purpose}
+use Rattle.sessions.specs.declared.sessions.Purpose.TheVariants.{ToCarryOut, ToSuppose}
+use Rattle.sessions.specs.Copying.{Copying}
+use Rattle.sessions.specs.Nearby.{IsNearAnswer, IsTableAnswer, IsToldAfter}
 use Rattle.sessions.specs.Stated.{state_or_refusal}
 use Rattle.sessions.specs.Supposing.{SupposesAfter, IsUnsupposed, IsNearIn, IsSupposedAnswer, IsTableIn, suppose_line, forgotten_line}
-use Rattle.suppositions.specs.Supposing.{Supposition}
-use Rattle.sessions.specs.Told.{HaveReceipts, HasMore, Settles, Replies, IsLooked, IsCopied, IsReached, ShowsLast, IsUnmet, IsUnshown, known_to}
+use Rattle.sessions.specs.Told.{HaveReceipts, Settles, Replies, IsLooked, IsCopied, IsReached, ShowsLast, IsUnmet, IsUnshown, known_to}
 
 -- the number by which the fault of a line or of a group is told
 abbrev pub fault_number : Code → ℕ
@@ -50,46 +58,47 @@ version_or_refusal (Err refusal) = refusal_line (number_of refusal)
 abbrev pub asks_alone : ℕ
 asks_alone = 64
 
+-- ---- how a session is
+
+-- its last accepted group, the groups that it has seen or was told of, and what it supposes
+pub record SessionState : Type 0 where
+  pub last : Option Accepted
+  pub known : List Group
+  pub supposed : Option Supposition
+
+-- No group is accepted, none is told to be durable, and this is supposed then.
+pub record Leaves (supposed : Option Supposition) (was is : SessionState) (durable : List Ticket) : Type 0 where
+  pub last : is.last ≡ was.last
+  pub supposed_is : is.supposed ≡ supposed
+  pub none_durable : durable ≡ []
+
+-- the group that lines are in: what is to become of it, and what the lines said so far
+pub record Grouped : Type 0 where
+  pub purpose : Purpose
+  pub draft : Drafted
+
+-- The group that lines are in behind one line more: `begin` and `suppose` begin one where they are in none, and `end` ends it.
+abbrev pub next_group : Option Grouped → Line → Option Grouped
+next_group None Begin = Some (record { purpose = ToCarryOut; draft = no_draft })
+next_group None Suppose = Some (record { purpose = ToSuppose; draft = no_draft })
+next_group None other = None
+next_group (Some group) End = None
+next_group (Some group) other = Some (record group { draft = with_line group.draft other })
+
+-- ---- what a group is told
+
 -- What a group is told, and whether it is told to be durable: what it comes to, in a session whose commands are carried out; in one that asks alone it is
 -- refused (64), and no group was accepted.
-abbrev pub IsGroupAnswer : Bool → Origin → Group → Option Accepted → Option Accepted → List ℕ → List Ticket → Type 0
-IsGroupAnswer true origin group before last told durable =
-    (reply : Replied) × Settles origin before last group reply durable × (told ≡ printed_reply reply)
-IsGroupAnswer false origin group before last told durable = (told ≡ refusal_line asks_alone) × (durable ≡ []) × (last ≡ before)
+abbrev pub IsGroupAnswer : Bool → Origin → Group → SessionState → SessionState → List ℕ → List Ticket → Type 0
+IsGroupAnswer true origin group was is told durable =
+    (reply : Replied) × Settles origin was.last is.last group reply durable × (is.supposed ≡ was.supposed) × (told ≡ printed_reply reply)
+IsGroupAnswer false origin group was is told durable = Leaves was.supposed was is durable × (told ≡ refusal_line asks_alone)
 
 -- What the end of a group is told that has this fault or none: the fault; or what its commands are told; or that no memory was given for them.
-abbrev pub IsEndAnswer : Copying → Origin → Option Code → Group → Option Accepted → Option Accepted → List ℕ → List Ticket → Type 0
-IsEndAnswer copying origin (Some code) group before last told durable = (told ≡ refusal_line (fault_number code)) × (durable ≡ []) × (last ≡ before)
-IsEndAnswer copying origin None group before last told durable =
-    IsGroupAnswer copying.changes origin group before last told durable ⊎ ((told ≡ refusal_line (number_of OutOfMemory)) × (durable ≡ []) × (last ≡ before))
-
--- What a line is told, and which groups it tells to be durable (those that a refusal rests on too), within this group or outside of groups, where the session's last accepted group
--- was `before` and is `last`, and the session knows these groups. A command outside is a group of its own. Within a group nothing is told before its end.
-abbrev pub IsAnswer : Copying → Origin → Option Drafted → Line → Option Accepted → Option Accepted → List Group → List ℕ → List Ticket → Type 0
-IsAnswer copying origin None (a_command command) before last known told durable = IsGroupAnswer copying.changes origin (command ∷ []) before last told durable
-IsAnswer copying origin None (Query query) before last known told durable =
-    (reply : Replied) × Replies origin known query reply × (told ≡ printed_reply reply) × (durable ≡ []) × (last ≡ before)
-IsAnswer copying origin None Wait before last known told durable =
-    (shown : Result ℕ Refusal) × IfOk shown (ShowsLast origin last known) × IfErr shown IsUnshown × (told ≡ version_or_refusal shown) × (durable ≡ []) × (last ≡ before)
-IsAnswer copying origin None (a_look look) before last known told durable = IsLooked origin known look told × (durable ≡ []) × (last ≡ before)
-IsAnswer copying origin None (a_near near) before last known told durable = IsToldAfter origin known (IsNearAnswer near) told × (durable ≡ []) × (last ≡ before)
-IsAnswer copying origin None (a_table table) before last known told durable =
-    IsToldAfter origin known (IsTableAnswer (pairs_of (sources_of table) (targets_of table))) told × (durable ≡ []) × (last ≡ before)
-IsAnswer copying origin None Unkept before last known told durable = (told ≡ refusal_line (number_of OutOfMemory)) × (durable ≡ []) × (last ≡ before)
-IsAnswer copying origin None (Copy name) before last known told durable = IsCopied copying origin known (name_of name) told × (durable ≡ []) × (last ≡ before)
-IsAnswer copying origin None (Until number) before last known told durable =
-    (shown : Result ℕ Refusal) × IfOk shown (IsReached origin number known) × IfErr shown (IsUnmet origin number) × (told ≡ version_or_refusal shown) × (durable ≡ []) × (last ≡ before)
-IsAnswer copying origin None State before last known told durable =
-    (stood : Result DeskState Refusal) × IfOk stood (StoodSo origin) × IfErr stood (λ refusal. refusal ≡ Closed) × (told ≡ state_or_refusal stood) × (durable ≡ []) × (last ≡ before)
-IsAnswer copying origin None (Refused code grouped) before last known told durable = (told ≡ refusal_line (fault_number code)) × (durable ≡ []) × (last ≡ before)
-IsAnswer copying origin None End before last known told durable = (told ≡ refusal_line (fault_number BadLine)) × (durable ≡ []) × (last ≡ before)
-IsAnswer copying origin None Ignored before last known told durable = (told ≡ []) × (durable ≡ []) × (last ≡ before)
-IsAnswer copying origin None Quit before last known told durable = (told ≡ []) × (durable ≡ []) × (last ≡ before)
-IsAnswer copying origin None Begin before last known told durable = (told ≡ []) × (durable ≡ []) × (last ≡ before)
-IsAnswer copying origin None Suppose before last known told durable = (told ≡ []) × (durable ≡ []) × (last ≡ before)
-IsAnswer copying origin None Forget before last known told durable = (told ≡ refusal_line (fault_number BadLine)) × (durable ≡ []) × (last ≡ before)
-IsAnswer copying origin (Some draft) End before last known told durable = IsEndAnswer copying origin (fault_of draft) draft.commands before last told durable
-IsAnswer copying origin (Some draft) other before last known told durable = (told ≡ []) × (durable ≡ []) × (last ≡ before)
+abbrev pub IsEndAnswer : Copying → Origin → Option Code → Group → SessionState → SessionState → List ℕ → List Ticket → Type 0
+IsEndAnswer copying origin (Some code) group was is told durable = Leaves was.supposed was is durable × (told ≡ refusal_line (fault_number code))
+IsEndAnswer copying origin None group was is told durable =
+    IsGroupAnswer copying.changes origin group was is told durable ⊎ (Leaves was.supposed was is durable × (told ≡ refusal_line (number_of OutOfMemory)))
 
 -- What the end of a group is told that is to be supposed, and what is supposed then: its fault, and nothing is; or the version that it is made of; or why
 -- nothing is.
@@ -98,50 +107,71 @@ IsSupposedEnd origin known (Some code) group supposed told = (supposed ≡ None)
 IsSupposedEnd origin known None group (Some supposed) told = SupposesAfter origin known group supposed × (told ≡ suppose_line supposed.version)
 IsSupposedEnd origin known None group None told = (refusal : Refusal) × IsUnsupposed origin known group refusal × (told ≡ refusal_line (number_of refusal))
 
--- What a line is told, where these lines are to be supposed and this is supposed, and what is supposed then. Lines of a group that is to be supposed are
--- told nothing before its end, and nothing of it is accepted. What is supposed stays until `forget` or another `suppose`; queries, nodes near one and tables
--- are answered in it, and each other line as if nothing were supposed.
-abbrev pub IsSaid : Copying → Origin → Option Drafted → Option Supposition → Option Supposition → Option Drafted → Line → Option Accepted → Option Accepted → List Group → List ℕ → List Ticket → Type 0
-IsSaid copying origin (Some group) was is draft End before last known told durable = IsSupposedEnd origin known (fault_of group) group.commands is told × (durable ≡ []) × (last ≡ before)
-IsSaid copying origin (Some group) was is draft other before last known told durable = (is ≡ was) × (told ≡ []) × (durable ≡ []) × (last ≡ before)
-IsSaid copying origin None was is (Some draft) line before last known told durable = (is ≡ was) × IsAnswer copying origin (Some draft) line before last known told durable
-IsSaid copying origin None was is None Suppose before last known told durable = (is ≡ None) × (told ≡ []) × (durable ≡ []) × (last ≡ before)
-IsSaid copying origin None (Some supposed) is None Forget before last known told durable = (is ≡ None) × (told ≡ forgotten_line) × (durable ≡ []) × (last ≡ before)
-IsSaid copying origin None (Some supposed) is None (Query query) before last known told durable =
-    (is ≡ Some supposed) × IsSupposedAnswer supposed query told × (durable ≡ []) × (last ≡ before)
-IsSaid copying origin None (Some supposed) is None (a_near near) before last known told durable =
-    (is ≡ Some supposed) × IsNearIn supposed near told × (durable ≡ []) × (last ≡ before)
-IsSaid copying origin None (Some supposed) is None (a_table table) before last known told durable =
-    (is ≡ Some supposed) × IsTableIn supposed (sources_of table) (targets_of table) told × (durable ≡ []) × (last ≡ before)
-IsSaid copying origin None was is None line before last known told durable = (is ≡ was) × IsAnswer copying origin None line before last known told durable
+-- what the end of a group is told, whatever was to become of it
+abbrev pub IsEnd : Copying → Origin → Purpose → Drafted → SessionState → SessionState → List ℕ → List Ticket → Type 0
+IsEnd copying origin ToCarryOut draft was is told durable = IsEndAnswer copying origin (fault_of draft) draft.commands was is told durable
+IsEnd copying origin ToSuppose draft was is told durable =
+    IsSupposedEnd origin is.known (fault_of draft) draft.commands is.supposed told × Leaves is.supposed was is durable
 
--- The writer has this answer and no more. The beginning of the history that the session has goes on to one with what is told to be durable.
-pub record Says (copying : Copying) (origin : Origin) (supposing : Option Drafted) (was is : Option Supposition) (draft : Option Drafted) (line : Line) (before last : Option Accepted) (known : List Group) (had has : Option Beginning) (old new : Option (List ℕ)) : Type 0 where
-  pub told : List ℕ
-  pub durable : List Ticket
-  pub is_said : IsSaid copying origin supposing was is draft line before last known told durable
-  pub kept : HasMore origin had has durable
-  pub written : Appends old new told
+-- ---- what a line is told that stands in no group
 
--- The same where nothing is supposed.
-pub record Tells (copying : Copying) (origin : Origin) (draft : Option Drafted) (line : Line) (before last : Option Accepted) (known : List Group) (had has : Option Beginning) (old new : Option (List ℕ)) : Type 0 where
-  pub told : List ℕ
-  pub durable : List Ticket
-  pub is_answer : IsAnswer copying origin draft line before last known told durable
-  pub kept : HasMore origin had has durable
-  pub written : Appends old new told
+-- what a query, the nodes near one and a table are told in a session that knows these groups: in what is supposed, if something is, and else in what is shown
+abbrev pub IsQueried : Origin → List Group → Option Supposition → Asked → List ℕ → Type 0
+IsQueried origin known None query told = (reply : Replied) × Replies origin known query reply × (told ≡ printed_reply reply)
+IsQueried origin known (Some supposed) query told = IsSupposedAnswer supposed query told
 
--- how far a session is: the bytes that are left of its lines, what it told, the groups that it told to be durable, those that it has seen or was told
--- of, its last accepted group, the group that its lines are in, if they are in one, or that which is to be supposed, and what is supposed
+abbrev pub IsFoundNear : Origin → List Group → Option Supposition → Near → List ℕ → Type 0
+IsFoundNear origin known None near told = IsToldAfter origin known (IsNearAnswer near) told
+IsFoundNear origin known (Some supposed) near told = IsNearIn supposed near told
+
+abbrev pub IsTabled : Origin → List Group → Option Supposition → AskedTable → List ℕ → Type 0
+IsTabled origin known None table told = IsToldAfter origin known (IsTableAnswer (pairs_of (sources_of table) (targets_of table))) told
+IsTabled origin known (Some supposed) table told = IsTableIn supposed (sources_of table) (targets_of table) told
+
+-- what `forget` is told: that what was supposed is no more, or that nothing was
+abbrev pub IsForgotten : Option Supposition → List ℕ → Type 0
+IsForgotten None told = told ≡ refusal_line (fault_number BadLine)
+IsForgotten (Some supposed) told = told ≡ forgotten_line
+
+-- What a line is told by which no group is accepted and nothing else is supposed, in a session that was so and knows these groups now.
+abbrev pub IsTold : Copying → Origin → SessionState → List Group → Line → List ℕ → Type 0
+IsTold copying origin was known (Query query) told = IsQueried origin known was.supposed query told
+IsTold copying origin was known (a_near near) told = IsFoundNear origin known was.supposed near told
+IsTold copying origin was known (a_table table) told = IsTabled origin known was.supposed table told
+IsTold copying origin was known (a_look look) told = IsLooked origin known look told
+IsTold copying origin was known (Copy name) told = IsCopied copying origin known (name_of name) told
+IsTold copying origin was known Wait told =
+    (shown : Result ℕ Refusal) × IfOk shown (ShowsLast origin was.last known) × IfErr shown IsUnshown × (told ≡ version_or_refusal shown)
+IsTold copying origin was known (Until number) told =
+    (shown : Result ℕ Refusal) × IfOk shown (IsReached origin number known) × IfErr shown (IsUnmet origin number) × (told ≡ version_or_refusal shown)
+IsTold copying origin was known State told =
+    (stood : Result DeskState Refusal) × IfOk stood (StoodSo origin) × IfErr stood (λ refusal. refusal ≡ Closed) × (told ≡ state_or_refusal stood)
+IsTold copying origin was known Unkept told = told ≡ refusal_line (number_of OutOfMemory)
+IsTold copying origin was known (Refused code grouped) told = told ≡ refusal_line (fault_number code)
+IsTold copying origin was known End told = told ≡ refusal_line (fault_number BadLine)
+IsTold copying origin was known other told = told ≡ []
+
+-- ---- what a line is told
+
+-- What a line is told, and which groups it tells to be durable (those that a refusal rests on too), within this group or outside of groups, in a session that
+-- was so and is so then. A command outside is a group of its own. Within a group nothing is told before its end, and nothing of one that is to be supposed is
+-- accepted. What is supposed stays until `forget` or another `suppose`.
+abbrev pub IsAnswer : Copying → Origin → Option Grouped → Line → SessionState → SessionState → List ℕ → List Ticket → Type 0
+IsAnswer copying origin None (a_command command) was is told durable = IsGroupAnswer copying.changes origin (command ∷ []) was is told durable
+IsAnswer copying origin None Suppose was is told durable = (told ≡ []) × Leaves None was is durable
+IsAnswer copying origin None Forget was is told durable = IsForgotten was.supposed told × Leaves None was is durable
+IsAnswer copying origin None line was is told durable = IsTold copying origin was is.known line told × Leaves was.supposed was is durable
+IsAnswer copying origin (Some group) End was is told durable = IsEnd copying origin group.purpose group.draft was is told durable
+IsAnswer copying origin (Some group) line was is told durable = (told ≡ []) × Leaves was.supposed was is durable
+
+-- how far a session is: the bytes that are left of its lines, what it told, the groups that it told to be durable, the group that its lines are in, if they
+-- are in one, and how it is
 pub record Standing : Type 0 where
   pub left : List ℕ
   pub told : List ℕ
   pub durable : List Ticket
-  pub known : List Group
-  pub last : Option Accepted
-  pub draft : Option Drafted
-  pub supposing : Option Drafted
-  pub supposed : Option Supposition
+  pub group : Option Grouped
+  pub state : SessionState
 
 -- the next line, which is not `quit`, is read and answered
 pub record IsTurn (copying : Copying) (last_line : LastLine) (origin : Origin) (old new : Standing) : Type 0 where
@@ -150,21 +180,24 @@ pub record IsTurn (copying : Copying) (last_line : LastLine) (origin : Origin) (
   pub read : ReadsOne last_line old.left (Some new.left) line
   pub answer : List ℕ
   pub receipts : List Ticket
-  pub answers : IsSaid copying origin old.supposing old.supposed new.supposed old.draft line old.last new.last new.known answer receipts
-  pub draft : new.draft ≡ next_draft_beside old.supposing old.draft line
-  pub supposing : new.supposing ≡ next_supposing old.supposing old.draft line
+  pub answers : IsAnswer copying origin old.group line old.state new.state answer receipts
+  pub group : new.group ≡ next_group old.group line
   pub told : new.told ≡ old.told ++ answer
   pub durable : new.durable ≡ old.durable ++ receipts
-  pub begins : IsPrefix old.known new.known
+  pub begins : IsPrefix old.state.known new.state.known
 
 -- one line after the other
 abbrev pub AreTurns : Copying → LastLine → Origin → Standing → List Standing → Standing → Type 0
 AreTurns copying last_line origin first [] last = last ≡ first
 AreTurns copying last_line origin first (next ∷ others) last = IsTurn copying last_line origin first next × AreTurns copying last_line origin next others last
 
+-- a session that has just begun
+abbrev pub new_state : SessionState
+new_state = record { last = None; known = []; supposed = None }
+
 -- a session over this text that has just begun
 abbrev pub beginning : List ℕ → Standing
-beginning text = record { left = text; told = []; durable = []; known = []; last = None; draft = None; supposing = None; supposed = None }
+beginning text = record { left = text; told = []; durable = []; group = None; state = new_state }
 
 -- the lines of the text up to here were answered in their order, and the writer has the answers and no more
 pub record HasServed (copying : Copying) (last_line : LastLine) (origin : Origin) (text : List ℕ) (old new : Option (List ℕ)) (last : Standing) : Type 0 where
@@ -174,14 +207,14 @@ pub record HasServed (copying : Copying) (last_line : LastLine) (origin : Origin
 
 -- the session has all that it told to be durable, and has seen or was told of these groups
 pub record IsSessionAt (origin : Origin) (place receipts : Option Beginning) (last : Standing) : Type 0 where
-  pub known : last.known ≡ known_to place
+  pub known : last.state.known ≡ known_to place
   pub durable : HaveReceipts origin receipts last.durable
 
 -- Whatever a stop leaves of the closed desk: each group that the session told to be durable has its number in it, and it begins with all
 -- groups after which the session answered a query.
 pub record IsKept (history shown : Beginning) (last : Standing) : Type 0 where
   pub durable : (kept : List Group) → KeepsSeen history shown kept → All (IsAt history.origin.version kept) last.durable
-  pub known : (kept : List Group) → KeepsSeen history shown kept → IsPrefix last.known kept
+  pub known : (kept : List Group) → KeepsSeen history shown kept → IsPrefix last.state.known kept
 
 -- Behind these lines comes the line `quit` or the end of the text, which may follow a line without its end that is dropped; or the reader fails in a line,
 -- which is not carried out; and this holds of the session as far as it came. Where the writer fails nothing is said.

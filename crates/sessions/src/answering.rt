@@ -1,18 +1,18 @@
-//! Which sessions are within an answer, so that a server which ends can wait for them.
+//! Which sessions are within an answer, so that a server that ends can wait for them.
 use std::sync::atomic::{AtomicU64, Ordering};
 use std::thread;
 use std::time::{Clock, Duration};
 
-/// How many sessions are within an answer: a line of theirs was read, and what it is answered is not sent yet.
+/// How many sessions are within an answer: they have read a line, and its answer has not been sent yet.
 #[derive(Drop)]
 pub struct Answering {
     count: AtomicU64,
-    /// 1 once an answer that begins is counted no more.
+    /// 1 once answers that begin are no longer counted.
     ending: AtomicU64,
 }
 
 impl Answering {
-    /// No session is.
+    /// No session is within an answer.
     pub fn new() -> Answering {
         Answering {
             count: AtomicU64::new(0),
@@ -20,7 +20,7 @@ impl Answering {
         }
     }
 
-    /// A session has read a line. It is told whether it is counted.
+    /// A session has read a line. Returns whether it is counted.
     pub(crate) fn begin(&self) -> bool {
         if self.ending.load(Ordering::SeqCst) != 0 {
             return false;
@@ -29,15 +29,15 @@ impl Answering {
         true
     }
 
-    /// The answer is sent, or can't be.
+    /// The answer was sent, or cannot be.
     pub(crate) fn end(&self, is_counted: bool) {
         if is_counted {
             self.count.fetch_sub(1, Ordering::SeqCst);
         }
     }
 
-    /// Gives the sessions that are within an answer so many milliseconds to send it, and tells whether all have. Answers that begin from now on are not
-    /// waited for: so a desk whose sessions are given this time is halted before.
+    /// Gives the sessions that are within an answer so many milliseconds to send it, and returns whether all have. It does not wait for answers that begin
+    /// from now on: so a desk is halted before its sessions are given this time.
     pub fn let_finish<R: Clock>(&self, rt: &R, millis: u64) -> bool {
         self.ending.store(1, Ordering::SeqCst);
         for _ in 0..millis {

@@ -1,11 +1,11 @@
-//! What a session answers about the nodes near one, and about tables, in what it supposes.
+//! The answers of a session about nodes near a node, and about tables, in what it supposes.
 ghost use Rattle.std.specs.Prelude.{◌≡◌, ◌++◌, All, IfOk, IfErr, OnOk};
 ghost use Rattle.roadnet.specs.Net.{IsNode};
 ghost use Rattle.rows.specs.Views.{AreRight};
-ghost use Rattle.printing.specs.Counting.{failed_writes, writer_of, IsSameWriter, CountsFailure};
 ghost use Rattle.suppositions.specs.Supposing.{IsUnanswered};
 ghost use Rattle.session_lines.specs.Listings.{sources_of, targets_of};
-ghost use Rattle.sessions.specs.Supposing.{IsNearIn, IsTableIn, IsToldSo};
+ghost use Rattle.sessions.specs.Saying.{PutsSo};
+ghost use Rattle.sessions.specs.Supposing.{IsNearIn, IsTableIn};
 ghost use Rattle.session_lines.specs.Tables.{pairs_of};
 
 use crate::finding::{Heading, tell_near, tell_pairs, tell_untold};
@@ -19,19 +19,16 @@ use std::io::Write;
 use std::thread::Threads;
 use suppositions::Supposed;
 
-/// Writes what is near a node in what is supposed, and sends it out.
-pub(crate) fn answer_near<R: Threads, W: Write>(
+/// Writes what is near a node in the supposed network, and sends it.
+pub(crate) fn near_supposed<R: Threads, W: Write>(
     rt: &R,
     alloc: Global,
     supposed: &mut Supposed,
     near: Near,
     out: &mut CountedWriter<'_, W>,
 ) -> Result<(), Failed>
-    ensures told { OnOk result (IsToldSo (IsNearIn supposed.old near) (W.contents (writer_of out.old)) (W.contents (writer_of out.new))) }
+    ensures told { PutsSo W.contents (IsNearIn supposed.old near) result out.old out.new }
     ensures supposed { supposed.new ≡ supposed.old }
-    ensures refused { IfErr result (λ failed. failed ≡ Failed.Code Refusal.Write) }
-    ensures counts { CountsFailure (failed_writes out.old) (failed_writes out.new) result }
-    ensures same { IsSameWriter out.old out.new }
 {
     let heading = Heading::Supposed(supposed.version());
     match supposed.near(rt, alloc, near) {
@@ -40,14 +37,14 @@ pub(crate) fn answer_near<R: Threads, W: Write>(
     }
 }
 
-/// The pairs of a table, with their replies in what is supposed.
+/// The pairs of a table, with their replies in the supposed network.
 #[derive(Drop)]
 struct Told {
     pairs: Vec<(u64, u64)>,
     replies: Vec<Reply>,
 }
 
-/// The replies to all pairs of a table in what is supposed.
+/// The replies to all pairs of a table in the supposed network.
 fn find_table<R: Threads>(
     rt: &R,
     alloc: Global,
@@ -77,19 +74,16 @@ fn find_table<R: Threads>(
     }
 }
 
-/// Writes the lengths of all pairs of a table in what is supposed, and sends them out.
-pub(crate) fn answer_table<R: Threads, W: Write>(
+/// Writes the lengths of all pairs of a table in the supposed network, and sends them.
+pub(crate) fn table_supposed<R: Threads, W: Write>(
     rt: &R,
     alloc: Global,
     supposed: &mut Supposed,
     table: &Table,
     out: &mut CountedWriter<'_, W>,
 ) -> Result<(), Failed>
-    ensures told { OnOk result (IsToldSo (IsTableIn supposed.old (sources_of table.now) (targets_of table.now)) (W.contents (writer_of out.old)) (W.contents (writer_of out.new))) }
+    ensures told { PutsSo W.contents (IsTableIn supposed.old (sources_of table.now) (targets_of table.now)) result out.old out.new }
     ensures supposed { supposed.new ≡ supposed.old }
-    ensures refused { IfErr result (λ failed. failed ≡ Failed.Code Refusal.Write) }
-    ensures counts { CountsFailure (failed_writes out.old) (failed_writes out.new) result }
-    ensures same { IsSameWriter out.old out.new }
 {
     let heading = Heading::Supposed(supposed.version());
     match find_table(rt, alloc, supposed, table) {

@@ -1,4 +1,4 @@
-//! Who makes copies of what a desk shows, and whether sessions change it.
+//! Whoever makes copies of what a desk shows, and whether sessions may change it.
 ghost use Rattle.std.specs.Prelude.{◌≡◌, true, IfErr, OnOk};
 ghost use Rattle.session_lines.specs.Names.{is_name};
 ghost use Rattle.sessions.specs.Copying.{IsUnmade, asking_alone, no_copying};
@@ -6,16 +6,17 @@ ghost use Rattle.sessions.specs.Copying.{IsUnmade, asking_alone, no_copying};
 use roadnet::{Network, Refusal};
 use std::alloc::Global;
 
-/// Who makes copies of a network while its desk is served, each a store of its own; and whether the sessions for which it makes them change the network.
+/// Whoever makes copies of a network while its desk is served, each a store of its own; and whether the sessions for which it makes them may change the
+/// network.
 ///
-/// It is called by the thread of the session that asks, while no lock of the desk is held, and by several at once.
+/// The thread of the session that asks calls it, while no lock of the desk is held. Several may call it at once.
 pub trait Copies {
     ghost use Rattle.sessions.specs.Copying.{Copying};
 
-    /// Whether commands are carried out, whether copies are made at all, and what the copy of a name is one of.
+    /// Whether commands are carried out, whether copies are made at all, and what a copy of a name is.
     ghost copying: { Self → Copying };
 
-    /// Whether commands are carried out; else the sessions ask alone.
+    /// Whether commands are carried out. Otherwise the sessions may only ask.
     fn may_change(&self) -> bool
         ensures { result ≡ (copying self.now).changes };
 
@@ -23,8 +24,9 @@ pub trait Copies {
     fn are_made(&self) -> bool
         ensures { result ≡ (copying self.now).allowed };
 
-    /// Makes a copy of the network at this version, under a name of 1 to 64 letters, digits, `-` and `_`. Refused is a name under which something is
-    /// there (46), a copy that can't be made (10), a device that fails (43), and want of memory (11). Who makes none needs no body of its own.
+    /// Makes a copy of the network at this version, under a name of 1 to 64 letters, digits, `-` and `_`. It fails if something of this name exists (46),
+    /// if the copy cannot be made (10), if the device fails (43), and for lack of memory (11). An implementation that makes no copies needs no body of its
+    /// own.
     fn copy(
         &self,
         _alloc: Global,
@@ -56,7 +58,7 @@ impl Copies for NoCopies {
     }
 }
 
-/// The sessions ask alone: no command is carried out, and no copies are made.
+/// The sessions may only ask: no command is carried out, and no copies are made.
 #[derive(Clone, Copy)]
 pub struct AskingAlone;
 

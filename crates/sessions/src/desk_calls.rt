@@ -24,8 +24,8 @@ use std::sync::Wait;
 use std::thread::Threads;
 use std::time::Clock;
 
-/// What a session calls of its desk: a handle's calls of the same names, which say what each does and for what it is refused. A session and what it supposes
-/// know their desk by these alone.
+/// What a session calls of its desk: a handle's calls of the same names, which say what each does and why it is refused. A session and what it supposes
+/// know their desk only by these.
 pub(crate) trait DeskCalls<N: Naming> {
     /// A place among the readers.
     fn place(&self) -> Result<Place<N>, Refusal>
@@ -75,7 +75,7 @@ pub(crate) trait DeskCalls<N: Naming> {
         ensures there { IfOk result (λ shown. IsAt N.origin.version shown.groups ticket.now.ticket) }
         ensures causes { IfErr result IsUnserved };
 
-    /// Waits until this version or a later one is shown, as long as the desk lets wait.
+    /// Waits until this version or a later one is shown, for at most the desk's patience.
     fn wait_version(&self, version: u64) -> Result<Shown, Refusal>
         ensures origin { IfOk result (λ shown. shown.origin ≡ N.origin) }
         ensures there { IfOk result (λ shown. version ≤ N.origin.version + length shown.groups) }
@@ -84,10 +84,10 @@ pub(crate) trait DeskCalls<N: Naming> {
     /// A client has come.
     fn client_came(&self);
 
-    /// A client that had come has gone.
+    /// A client that had come has left.
     fn client_went(&self);
 
-    /// How the desk stands.
+    /// The state of the desk.
     fn state(&self) -> Result<DeskState, Refusal>
         ensures stood { IfOk result (StoodSo N.origin) }
         ensures causes { IfErr result (λ refusal. refusal ≡ closed) };

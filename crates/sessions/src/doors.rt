@@ -1,9 +1,7 @@
 //! Sessions with clients that come one after the other, in threads that nobody joins.
 ghost use Rattle.std.specs.Prelude.{◌≡◌, IfErr};
 ghost use Rattle.roadnet.specs.declared.refusals.Refusal.TheVariants.{NoThread as no_thread};
-ghost use Rattle.session_lines.specs.declared.reading.LastLine.TheVariants.{Dropped as dropped};
-ghost use Rattle.sessions.specs.Clients.{IsAnswered};
-ghost use Rattle.sessions.specs.Copying.{copying_at};
+ghost use Rattle.sessions.specs.Clients.{IsAnsweredAt};
 
 use crate::answering::Answering;
 use crate::clients::{Served, serve_client};
@@ -19,22 +17,22 @@ use session_lines::LastLine;
 use std::alloc::Global;
 use std::io::{BufRead, Write};
 use std::sync::{Arc, Mutex, Wait};
-use std::thread::{self, Threads};
+use std::thread::{self, JoinHandle, Threads};
 use std::time::Clock;
 
-/// Where clients come, one after the other.
+/// A place where clients come, one after the other.
 pub trait Door<I, W> {
-    /// Whether their sessions ask alone.
+    /// Whether their sessions may only ask.
     fn asks_alone(&self) -> bool;
 
-    /// The next client, once it has come: where its lines come from, and where its answers go. None where no more come.
+    /// The next client, once it has come: where its lines come from, and where its answers go. Nothing if no more clients come.
     fn next(&mut self) -> Option<(I, W)>;
 
-    /// The session with the client that came last has ended, and came to this. What was handed out is handed back, to be closed.
+    /// The session with the last client has ended, with this outcome. What was handed out is handed back, to be closed.
     fn ended(&mut self, reader: I, writer: W, outcome: Result<(), Failed>);
 }
 
-/// What the sessions at the doors of one desk share: what is left of those that have ended, which are within an answer, and who makes copies for them.
+/// What the sessions at the doors of one desk share: what the finished ones left, which sessions are within an answer, and who makes copies for them.
 #[derive(Drop)]
 pub struct Visits<N: Naming, C> {
     past: Mutex<Past<N>>,
@@ -54,7 +52,7 @@ impl<N: Naming, C: Copies> Visits<N, C> {
         }
     }
 
-    /// Who makes the copies for which sessions ask.
+    /// Whoever makes the copies for which sessions ask.
     pub fn copies(&self) -> &C
         ensures { result.now ≡ self.now.copies }
     {
@@ -66,7 +64,7 @@ impl<N: Naming, C: Copies> Visits<N, C> {
         &self.answering
     }
 
-    /// A session has ended: what it has of its desk is put to what is left of those before it. It came to this.
+    /// A session has ended: what it has of its desk is added to what earlier ones left. Returns its outcome.
     fn add<R: Wait>(&self, rt: &R, served: Served<N>) -> Result<(), Failed>
         ensures { result ≡ served.outcome }
     {
@@ -80,7 +78,7 @@ impl<N: Naming, C: Copies> Visits<N, C> {
         outcome
     }
 
-    /// Compares what is left of the sessions that have ended with their desk, which is closed, as `Past::is_kept`.
+    /// Compares what the finished sessions left with their desk, which is closed, as by `Past::is_kept`.
     pub fn are_kept<D: Disk, R: Wait>(&self, rt: &R, closed: &Closed<D>) -> bool
         requires { closed.now.whole.origin ≡ N.origin }
     {
@@ -88,7 +86,7 @@ impl<N: Naming, C: Copies> Visits<N, C> {
     }
 }
 
-/// A session with a client who has come by a door, as `serve`. By pipes a client may be cut off in a line: that line is not carried out.
+/// A session with a client that has come through a door, as `serve`. A client of a pipe may be cut off within a line: that line is not carried out.
 fn serve_at<N: Naming, H: DeskCalls<N>, R: Threads + Wait, I: BufRead, W: Write, C: Copies>(
     rt: &R,
     alloc: Global,
@@ -98,8 +96,8 @@ fn serve_at<N: Naming, H: DeskCalls<N>, R: Threads + Wait, I: BufRead, W: Write,
     reader: &mut I,
     writer: &mut W,
 ) -> Served<N>
-    // Where the sessions of the door ask alone no command is carried out.
-    ensures { IsAnswered (copying_at asks_alone (C.copying visits.now.copies)) dropped N.origin (I.remaining reader.old) (I.remaining reader.new) (W.contents writer.old) (W.contents writer.new) result.session.place result.session.receipts result.failed_reads result.failed_writes result.outcome }
+    // If the sessions of the door may only ask, no command is carried out.
+    ensures { IsAnsweredAt asks_alone (C.copying visits.now.copies) N.origin I.remaining W.contents reader.old reader.new writer.old writer.new result }
 {
     let last_line = LastLine::Dropped;
     let answering = &visits.answering;
@@ -148,15 +146,21 @@ fn serve_in_turn<
     }
 }
 
+/// A thread that was started and let go: it is cut off where the program ends. Without a thread there is none of this.
+#[derive(Drop)]
+pub struct Started {
+    thread: JoinHandle<()>,
+}
+
 /// Starts a thread that does this work over what it is handed, and lets it go. Refused is a thread that the system does not give (63).
 ///
-/// Of what it is handed nothing is known here but that it may go to another thread.
+/// Nothing is known here of what the thread is given, except that it may go to another thread.
 pub fn let_go<
     R: Threads,
     T: Send + Drop + 'static,
     P: Send + Drop + 'static,
     F: FnOnce(T, P) + Send + Drop + 'static,
->(rt: &R, desk: T, visits: P, work: F) -> Result<(), Refusal>
+>(rt: &R, desk: T, visits: P, work: F) -> Result<Started, Refusal>
     requires { F.IsAlwaysCallable work }
     ensures { IfErr result (λ refusal. refusal ≡ no_thread) }
 {
@@ -167,15 +171,15 @@ pub fn let_go<
         { work(desk, visits) },
     );
     match started {
-        Ok(_) => Ok(()),
+        Ok(thread) => Ok(Started { thread }),
         Err(_) => Err(Refusal::NoThread),
     }
 }
 
-/// Starts a thread that serves those who come to a door, one after the other, and lets it go: it is cut off where the program ends. What is left of its
-/// sessions that have ended is put to what is left of others. Of a last line that no line feed ends nothing is carried out.
+/// Starts a thread that serves those who come through a door, one after the other, and does not join it: it is cut off when the program ends. What its
+/// finished sessions leave is added to what others left. A last line that no line feed ends is not carried out.
 ///
-/// Refused is a thread that the system does not give (63); the door is let go then.
+/// It fails with 63 if the system gives no thread. Then the door is dropped.
 pub fn serve_door<
     N: Naming + Send + Sync + 'static,
     D: Disk + Drop + Send + 'static,
@@ -191,7 +195,7 @@ pub fn serve_door<
     desk: Handle<N, D, G, R>,
     mut door: P,
     visits: Arc<Visits<N, C>>,
-) -> Result<(), Refusal>
+) -> Result<Started, Refusal>
     ensures { IfErr result (λ refusal. refusal ≡ no_thread) }
 {
     let_go(

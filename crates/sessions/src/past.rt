@@ -1,17 +1,19 @@
-//! What is left of sessions that have ended.
-ghost use Rattle.std.specs.Prelude.{◌≡◌, ◌∷◌, ◌++◌, [], true, All, List};
+//! What finished sessions leave.
+ghost use Rattle.std.specs.Prelude.{◌≡◌, ◌<◌, ◌≤◌, [], true, false, length, IfSome};
 ghost use Rattle.std.specs.Option.{ForSome};
-ghost use Rattle.sessions.specs.Past.{AreLeft, HoldsMore};
+ghost use mathlib.Core.List.{IsPrefix};
+ghost use Rattle.sessions.specs.Past.{AreKept, AreLeft, HoldsMore, LeavesOneMore};
+ghost use Rattle.sessions.specs.Told.{known_to};
 ghost use Rattle.sessions.specs.Turns.{Standing, IsSessionAt, IsKept};
 
-use crate::answers::{Session, compare};
+use crate::sessions::Session;
 use desk::{Closed, Naming};
 use disk::Disk;
-use history::Front;
+use history::{Front, Whole};
 use std::marker::PhantomData;
 
-/// What is left of sessions of one desk that have ended, in as much memory as one takes: a beginning of the desk's history in which each group is
-/// acknowledged that one of them told to be durable, and one with all groups that one of them has seen. No place among the desk's readers is kept.
+/// What finished sessions of one desk leave, in as much memory as one of them takes: a front of the desk's history in which each group is acknowledged that
+/// one of them reported to be durable, and one with all groups that one of them has seen. No reader place of the desk is kept.
 #[derive(Drop)]
 pub struct Past<N: Naming> {
     receipts: Option<Front>,
@@ -21,7 +23,36 @@ pub struct Past<N: Naming> {
     ghost seen_of_desk: { ForSome seen (λ front. front.origin ≡ N.origin) },
 }
 
-/// A beginning of the history that has what two have, if there is one of them.
+/// A closed history has what a front of it has, if there is one.
+fn compare(receipts: &Option<Front>, whole: &Whole)
+    requires { ForSome receipts.now (λ front. front.origin ≡ whole.now.origin) }
+    ensures { IfSome receipts.now (λ front. IsPrefix front.groups whole.now.groups × (front.acknowledged ≤ whole.now.acknowledged)) }
+{
+    match receipts {
+        Some(front) => whole.holds(front),
+        None => (),
+    }
+}
+
+impl<N: Naming> Session<N> {
+    /// Compares what the session has with its desk, which is closed. Whatever a stop leaves of the desk: each group that the session reported to be durable
+    /// has its number in it, and it begins with everything that the session has seen or learned of. It takes no memory.
+    ///
+    /// It returns false only if the desk showed fewer groups than the session has seen, which never happens.
+    pub fn is_kept<D: Disk>(&self, closed: &Closed<D>) -> bool
+        requires { closed.now.whole.origin ≡ N.origin }
+        ensures kept { result ≡ true → (last : Standing) → IsSessionAt N.origin self.now.place self.now.receipts last → IsKept closed.now.whole closed.now.shown last }
+        ensures fewer { result ≡ false → length closed.now.shown.groups < length (known_to self.now.place) }
+    {
+        compare(&self.receipts, &closed.whole);
+        match &self.place {
+            Some(place) => closed.has_shown(place.known()),
+            None => true,
+        }
+    }
+}
+
+/// A front of the history that has what two others have, if there is one of them.
 fn joined<N: Naming>(had: &Option<Front>, more: Option<Front>) -> Option<Front>
     requires had { ForSome had.now (λ front. front.origin ≡ N.origin) }
     requires more { ForSome more (λ front. front.origin ≡ N.origin) }
@@ -48,19 +79,19 @@ impl<N: Naming> Past<N> {
         }
     }
 
-    /// A session has ended. Its place among the readers is given back.
+    /// A session has ended. Its reader place is given back.
     pub fn add(&mut self, session: Session<N>)
-        ensures { (sessions : List Standing) (last : Standing) → AreLeft N.origin self.old.receipts self.old.seen sessions → IsSessionAt N.origin session.place session.receipts last → AreLeft N.origin self.new.receipts self.new.seen (sessions ++ last ∷ []) }
+        ensures { LeavesOneMore N.origin self.old.receipts self.old.seen self.new.receipts self.new.seen session.place session.receipts }
     {
         let (receipts, seen) = session.into_fronts();
         self.receipts = joined::<N>(&self.receipts, receipts);
         self.seen = joined::<N>(&self.seen, seen);
     }
 
-    /// Compares what is left of the sessions with their desk, which is closed, as `Session::is_kept` does for one.
+    /// Compares what the sessions left with their desk, which is closed, as `Session::is_kept` does for one.
     pub fn is_kept<D: Disk>(&self, closed: &Closed<D>) -> bool
         requires { closed.now.whole.origin ≡ N.origin }
-        ensures { result ≡ true → (sessions : List Standing) → AreLeft N.origin self.now.receipts self.now.seen sessions → All (IsKept closed.now.whole closed.now.shown) sessions }
+        ensures { result ≡ true → AreKept N.origin self.now.receipts self.now.seen closed.now.whole closed.now.shown }
     {
         compare(&self.receipts, &closed.whole);
         match &self.seen {

@@ -1,16 +1,15 @@
 //! A session with one client.
-ghost use Rattle.std.specs.Prelude.{◌≡◌, IfErr, IfSome};
-ghost use Rattle.dimacs.specs.Counts.{failed_calls, reader_of, IsSameReader};
-ghost use Rattle.printing.specs.Counting.{failed_writes, writer_of, IsSameWriter};
+ghost use Rattle.std.specs.Prelude.{◌≡◌, IfErr};
+ghost use Rattle.dimacs.specs.Counts.{failed_calls, IsSameReader};
+ghost use Rattle.printing.specs.Counting.{failed_writes, IsSameWriter};
 ghost use Rattle.printing.specs.Failing.{CountsWrites};
+ghost use Rattle.sessions.specs.Clients.{AreAnswered};
 ghost use Rattle.sessions.specs.Told.{CountsRead, IsOfStream};
-ghost use Rattle.sessions.specs.Turns.{Serves, IsSessionAt};
 
 use crate::answering::Answering;
-use crate::answers::Session;
 use crate::copies::Copies;
 use crate::desk_calls::DeskCalls;
-use crate::supposing::Supposing;
+use crate::sessions::Session;
 use desk::{Gate, Handle, Naming};
 use dimacs::Counted;
 use disk::Disk;
@@ -23,37 +22,49 @@ use std::sync::Wait;
 use std::thread::Threads;
 use std::time::Clock;
 
-/// How a session is held.
+/// The terms of a session.
 #[derive(Clone, Copy)]
 pub struct Terms<'a, C> {
-    /// What becomes of a last line that no line feed ends.
+    /// What to do with a last line that no line feed ends.
     pub last_line: LastLine,
     /// Where the session is counted while it is within an answer.
     pub answering: &'a Answering,
-    /// Who makes the copies that its lines ask for, and whether its commands are carried out.
+    /// Whoever makes the copies that its lines ask for, and whether its commands are carried out.
     pub copies: &'a C,
 }
 
-/// Carries out the lines of a client in their order by the desk, each answered, and the answer sent out, before the next line is read. It ends at
-/// the line `quit` and at the end of the input; the desk goes on.
+/// Carries out the lines of a client in their order by the desk. Each is answered, and the answer is sent, before the next line is read. The session ends
+/// at the line `quit` and at the end of the input. The desk goes on.
 ///
-/// The lines are the six commands (`ok N` once the command is durable, or `no CODE`), `dist S T`, `from X T` and `lower S T` (`v V` and an
-/// answer line, from a glance of that moment, or `no CODE`), `arc K`, `arcs T H`, `landmarks` and `closed` (`v V` and lines of the network that is
-/// shown, from a glance too, which is held until they are written), `reach S L`, `reached T L`, `nearest S K` and `table A B S.. T..` (`v V` and lines of
-/// lengths, all in the network of that version, or `no CODE`), `wait` (`v V` once the session's last accepted group is shown, or `no CODE`),
-/// `until N` (`v V` once version N is shown), `state` (how the desk stands, in a line), `copy NAME` (`copied V` once a copy of the network that is shown
-/// is made under this name, of 1 to 64 letters, digits, `-` and `_`, or `no CODE`; `no 1` where no copies are made), `suppose`, behind which the commands of a group and `end` stand (`suppose V`: from then on queries, nodes near one and tables are answered in the
-/// network of version V with the group carried out, behind `s V`, or `no CODE`), `forget` (`forgotten`: what was supposed is no more; or `no 1`) and `quit`. The lines `begin` and `end` enclose the commands of a group: nothing is answered before its end, which answers for the whole, `ok N` once it
-/// is durable, or the code of its first line that has a fault, or `no CODE`. In a session that asks alone a command, and a group without a fault, has `no 64`, and nothing of it is accepted. A group that `quit` or the end of the input cuts off is dropped. Lines with no field and comments, which begin with `#`, have no answer; any other line has `no 1` or `no 5`. No line is too long:
-/// a line takes no memory, but a table 8 bytes a number; a group takes 32 bytes a command. A last line that no line feed ends is a line, or is dropped, as the terms say: what is
-/// carried out are whole lines alone then.
+/// The lines and their answers, where `no CODE` may come in place of an answer:
 ///
-/// Between two lines the session holds no view of the desk and keeps no row: rows are kept by the desk for all sessions.
+/// - the six commands: `ok N` once the command is durable;
+/// - `dist S T`, `from X T` and `lower S T`: `v V` and an answer line, from a glance of that moment;
+/// - `arc K`, `arcs T H`, `landmarks` and `closed`: `v V` and lines about the shown network, from a glance that is held until they are written;
+/// - `reach S L`, `reached T L`, `nearest S K` and `table A B S.. T..`: `v V` and lines of lengths, all in the network of that version;
+/// - `wait`: `v V` once the session's last accepted group is shown;
+/// - `until N`: `v V` once version N is shown;
+/// - `state`: the state of the desk, in a line;
+/// - `copy NAME`: `copied V` once a copy of the shown network is made under this name, of 1 to 64 letters, digits, `-` and `_`; `no 1` if no copies are
+/// made;
+/// - `suppose`, followed by the commands of a group and `end`: `suppose V`. From then on queries, nodes near a node and tables are answered in the network
+/// of version V with the group carried out, after `s V`;
+/// - `forget`: `forgotten`, and what was supposed is dropped; `no 1` if nothing was;
+/// - `begin` and `end`, which enclose the commands of a group: nothing before the end, and then `ok N` for the whole once it is durable, or the code of its
+/// first line that has a fault;
+/// - `quit`.
 ///
-/// What the session has of its desk is handed out: by that `Session::is_kept` says of the closed desk what the session's answers were promises of.
+/// In a session that may only ask, a command and a group without a fault get `no 64`, and nothing of them is accepted. A group that `quit` or the end of
+/// the input cuts off is dropped. Lines with no field, and comments, which begin with `#`, have no answer. Any other line gets `no 1` or `no 5`. No line is
+/// too long: a line takes no memory, except 8 bytes for each number of a table. A group takes 32 bytes a command. A last line that no line feed ends counts
+/// as a line or is dropped, as the terms say; if it is dropped, only complete lines are carried out.
 ///
-/// The errors are a failed call of the reader (10) and of the writer (12), and no others: what the desk refuses is an answer, also where it
-/// has no place for the session among its readers (`no 60`, at each query until there is one).
+/// Between two lines the session holds no view of the desk and keeps no row: the desk keeps rows for all sessions.
+///
+/// What the session has of its desk is returned: with it `Session::is_kept` says of the closed desk what the session's answers promised.
+///
+/// The only errors are a failed call of the reader (10) and of the writer (12). What the desk refuses is an answer, even if it has no reader place for the
+/// session (`no 60`, at each query until there is one).
 pub fn serve<
     N: Naming,
     D: Disk + Drop,
@@ -70,7 +81,7 @@ pub fn serve<
     reader: &mut Counted<'_, I>,
     writer: &mut CountedWriter<'_, W>,
 ) -> (Result<(), Failed>, Session<N>)
-    ensures answered { IfSome (I.remaining (reader_of reader.old)) (λ text. Serves (C.copying terms.entry.copies.now) terms.entry.last_line N.origin text (I.remaining (reader_of reader.new)) (W.contents (writer_of writer.old)) (W.contents (writer_of writer.new)) (IsSessionAt N.origin result.1.place result.1.receipts) result.0) }
+    ensures answered { AreAnswered C.copying terms.entry N.origin I.remaining W.contents reader.old reader.new writer.old writer.new result }
     ensures reads { CountsRead (failed_calls reader.old) (failed_calls reader.new) result.0 }
     ensures writes { CountsWrites (failed_writes writer.old) (failed_writes writer.new) result.0 }
     ensures causes { IfErr result.0 IsOfStream }
@@ -80,7 +91,7 @@ pub fn serve<
     serve_over(rt, alloc, desk, terms, reader, writer)
 }
 
-/// The same over a desk of which no more is known than the calls that a session makes.
+/// The same over a desk of which only the calls that a session makes are known.
 pub(crate) fn serve_over<
     N: Naming,
     H: DeskCalls<N>,
@@ -96,7 +107,7 @@ pub(crate) fn serve_over<
     reader: &mut Counted<'_, I>,
     writer: &mut CountedWriter<'_, W>,
 ) -> (Result<(), Failed>, Session<N>)
-    ensures answered { IfSome (I.remaining (reader_of reader.old)) (λ text. Serves (C.copying terms.entry.copies.now) terms.entry.last_line N.origin text (I.remaining (reader_of reader.new)) (W.contents (writer_of writer.old)) (W.contents (writer_of writer.new)) (IsSessionAt N.origin result.1.place result.1.receipts) result.0) }
+    ensures answered { AreAnswered C.copying terms.entry N.origin I.remaining W.contents reader.old reader.new writer.old writer.new result }
     ensures reads { CountsRead (failed_calls reader.old) (failed_calls reader.new) result.0 }
     ensures writes { CountsWrites (failed_writes writer.old) (failed_writes writer.new) result.0 }
     ensures causes { IfErr result.0 IsOfStream }
@@ -104,21 +115,20 @@ pub(crate) fn serve_over<
     ensures same_writer { IsSameWriter writer.old writer.new }
 {
     let mut session = Session::new();
-    let mut supposing = Supposing::new();
     for _ in rt.forever() {
         let line = match next_line(rt, alloc, reader, terms.last_line) {
-            Ok(None) => return (Ok(()), session),
+            Ok(None) => return (Ok(()), session.ended()),
             Ok(Some(line)) => line,
-            Err(_) => return (Err(Failed::Code(Refusal::Read)), session),
+            Err(_) => return (Err(Failed::Code(Refusal::Read)), session.ended()),
         };
         if is_quit(&line) {
-            return (Ok(()), session);
+            return (Ok(()), session.ended());
         }
         let is_counted = terms.answering.begin();
-        let told = supposing.answer(rt, alloc, desk, terms.copies, &mut session, line, writer);
+        let told = session.answer(rt, alloc, desk, terms.copies, line, writer);
         terms.answering.end(is_counted);
         if let Err(failed) = told {
-            return (Err(failed), session);
+            return (Err(failed), session.ended());
         }
     }
     unreachable!()

@@ -1,8 +1,7 @@
-//! The line that tells how a desk stands.
-ghost use Rattle.std.specs.Prelude.{◌≡◌, ◌++◌, OnOk, IfErr};
-ghost use Rattle.std.specs.Io.KnownBytes.{Appends};
+//! The line about the state of a desk.
+ghost use Rattle.std.specs.Prelude.{◌++◌};
 ghost use lib.Chars.{codes};
-ghost use Rattle.printing.specs.Counting.{failed_writes, writer_of, IsSameWriter, CountsFailure};
+ghost use Rattle.printing.specs.Writers.{Puts};
 ghost use Rattle.sessions.specs.Stated.{named, working_word, versions_part, waiting_part, journal_part, life_part, threads_part, arcs_part, served_part, state_line, state_or_refusal};
 
 use desk::{DeskState, Working};
@@ -10,16 +9,13 @@ use printing::{CountedWriter, Failed, put_number, put_refusal};
 use roadnet::Refusal;
 use std::io::Write;
 
-/// A word with its blanks, and a number
+/// A word with its blanks, and a number.
 fn put_named<W: Write>(
     out: &mut CountedWriter<'_, W>,
     word: &[u8],
     number: u64,
 ) -> Result<(), Failed>
-    ensures ok { OnOk result (Appends (W.contents (writer_of out.old)) (W.contents (writer_of out.new)) (named word.now number)) }
-    ensures refused { IfErr result (λ failed. failed ≡ Failed.Code Refusal.Write) }
-    ensures counts { CountsFailure (failed_writes out.old) (failed_writes out.new) result }
-    ensures same { IsSameWriter out.old out.new }
+    ensures { Puts W.contents (named word.now number) result out.old out.new }
 {
     out.write_all(word)?;
     put_number(out, number)
@@ -27,10 +23,7 @@ fn put_named<W: Write>(
 
 /// `state shown V durable D`
 fn put_versions<W: Write>(out: &mut CountedWriter<'_, W>, state: &DeskState) -> Result<(), Failed>
-    ensures ok { OnOk result (Appends (W.contents (writer_of out.old)) (W.contents (writer_of out.new)) (versions_part state.now)) }
-    ensures refused { IfErr result (λ failed. failed ≡ Failed.Code Refusal.Write) }
-    ensures counts { CountsFailure (failed_writes out.old) (failed_writes out.new) result }
-    ensures same { IsSameWriter out.old out.new }
+    ensures { Puts W.contents (versions_part state.now) result out.old out.new }
 {
     put_named(out, b"state shown ", state.shown)?;
     put_named(out, b" durable ", state.durable)
@@ -38,10 +31,7 @@ fn put_versions<W: Write>(out: &mut CountedWriter<'_, W>, state: &DeskState) -> 
 
 /// ` accepted A pending P`
 fn put_waiting<W: Write>(out: &mut CountedWriter<'_, W>, state: &DeskState) -> Result<(), Failed>
-    ensures ok { OnOk result (Appends (W.contents (writer_of out.old)) (W.contents (writer_of out.new)) (waiting_part state.now)) }
-    ensures refused { IfErr result (λ failed. failed ≡ Failed.Code Refusal.Write) }
-    ensures counts { CountsFailure (failed_writes out.old) (failed_writes out.new) result }
-    ensures same { IsSameWriter out.old out.new }
+    ensures { Puts W.contents (waiting_part state.now) result out.old out.new }
 {
     put_named(out, b" accepted ", state.accepted)?;
     put_named(out, b" pending ", state.pending)
@@ -49,10 +39,7 @@ fn put_waiting<W: Write>(out: &mut CountedWriter<'_, W>, state: &DeskState) -> R
 
 /// ` unchecked U pages J`
 fn put_journal<W: Write>(out: &mut CountedWriter<'_, W>, state: &DeskState) -> Result<(), Failed>
-    ensures ok { OnOk result (Appends (W.contents (writer_of out.old)) (W.contents (writer_of out.new)) (journal_part state.now)) }
-    ensures refused { IfErr result (λ failed. failed ≡ Failed.Code Refusal.Write) }
-    ensures counts { CountsFailure (failed_writes out.old) (failed_writes out.new) result }
-    ensures same { IsSameWriter out.old out.new }
+    ensures { Puts W.contents (journal_part state.now) result out.old out.new }
 {
     put_named(out, b" unchecked ", state.unchecked)?;
     put_named(out, b" pages ", state.pages)
@@ -60,10 +47,7 @@ fn put_journal<W: Write>(out: &mut CountedWriter<'_, W>, state: &DeskState) -> R
 
 /// ` landmarks L readers R left C`
 fn put_life<W: Write>(out: &mut CountedWriter<'_, W>, state: &DeskState) -> Result<(), Failed>
-    ensures ok { OnOk result (Appends (W.contents (writer_of out.old)) (W.contents (writer_of out.new)) (life_part state.now)) }
-    ensures refused { IfErr result (λ failed. failed ≡ Failed.Code Refusal.Write) }
-    ensures counts { CountsFailure (failed_writes out.old) (failed_writes out.new) result }
-    ensures same { IsSameWriter out.old out.new }
+    ensures { Puts W.contents (life_part state.now) result out.old out.new }
 {
     put_named(out, b" landmarks ", state.landmarks)?;
     put_named(out, b" readers ", state.readers)?;
@@ -72,10 +56,7 @@ fn put_life<W: Write>(out: &mut CountedWriter<'_, W>, state: &DeskState) -> Resu
 
 /// `on`, `ended` or `broken`
 fn put_working<W: Write>(out: &mut CountedWriter<'_, W>, working: Working) -> Result<(), Failed>
-    ensures ok { OnOk result (Appends (W.contents (writer_of out.old)) (W.contents (writer_of out.new)) (working_word working)) }
-    ensures refused { IfErr result (λ failed. failed ≡ Failed.Code Refusal.Write) }
-    ensures counts { CountsFailure (failed_writes out.old) (failed_writes out.new) result }
-    ensures same { IsSameWriter out.old out.new }
+    ensures { Puts W.contents (working_word working) result out.old out.new }
 {
     match working {
         Working::On => out.write_all(b"on"),
@@ -84,16 +65,13 @@ fn put_working<W: Write>(out: &mut CountedWriter<'_, W>, working: Working) -> Re
     }
 }
 
-/// A word with its blanks, and how a thread stands
+/// A word with its blanks, and the state of a thread.
 fn put_thread<W: Write>(
     out: &mut CountedWriter<'_, W>,
     word: &[u8],
     working: Working,
 ) -> Result<(), Failed>
-    ensures ok { OnOk result (Appends (W.contents (writer_of out.old)) (W.contents (writer_of out.new)) (word.now ++ working_word working)) }
-    ensures refused { IfErr result (λ failed. failed ≡ Failed.Code Refusal.Write) }
-    ensures counts { CountsFailure (failed_writes out.old) (failed_writes out.new) result }
-    ensures same { IsSameWriter out.old out.new }
+    ensures { Puts W.contents (word.now ++ working_word working) result out.old out.new }
 {
     out.write_all(word)?;
     put_working(out, working)
@@ -101,10 +79,7 @@ fn put_thread<W: Write>(
 
 /// ` flusher F builder B`
 fn put_threads<W: Write>(out: &mut CountedWriter<'_, W>, state: &DeskState) -> Result<(), Failed>
-    ensures ok { OnOk result (Appends (W.contents (writer_of out.old)) (W.contents (writer_of out.new)) (threads_part state.now)) }
-    ensures refused { IfErr result (λ failed. failed ≡ Failed.Code Refusal.Write) }
-    ensures counts { CountsFailure (failed_writes out.old) (failed_writes out.new) result }
-    ensures same { IsSameWriter out.old out.new }
+    ensures { Puts W.contents (threads_part state.now) result out.old out.new }
 {
     put_thread(out, b" flusher ", state.flusher)?;
     put_thread(out, b" builder ", state.builder)
@@ -112,10 +87,7 @@ fn put_threads<W: Write>(out: &mut CountedWriter<'_, W>, state: &DeskState) -> R
 
 /// ` arcs A room M`
 fn put_arcs<W: Write>(out: &mut CountedWriter<'_, W>, state: &DeskState) -> Result<(), Failed>
-    ensures ok { OnOk result (Appends (W.contents (writer_of out.old)) (W.contents (writer_of out.new)) (arcs_part state.now)) }
-    ensures refused { IfErr result (λ failed. failed ≡ Failed.Code Refusal.Write) }
-    ensures counts { CountsFailure (failed_writes out.old) (failed_writes out.new) result }
-    ensures same { IsSameWriter out.old out.new }
+    ensures { Puts W.contents (arcs_part state.now) result out.old out.new }
 {
     put_named(out, b" arcs ", state.arcs)?;
     put_named(out, b" room ", state.room)
@@ -123,10 +95,7 @@ fn put_arcs<W: Write>(out: &mut CountedWriter<'_, W>, state: &DeskState) -> Resu
 
 /// ` clients N pairs Q waiting W uptime S`
 fn put_served<W: Write>(out: &mut CountedWriter<'_, W>, state: &DeskState) -> Result<(), Failed>
-    ensures ok { OnOk result (Appends (W.contents (writer_of out.old)) (W.contents (writer_of out.new)) (served_part state.now)) }
-    ensures refused { IfErr result (λ failed. failed ≡ Failed.Code Refusal.Write) }
-    ensures counts { CountsFailure (failed_writes out.old) (failed_writes out.new) result }
-    ensures same { IsSameWriter out.old out.new }
+    ensures { Puts W.contents (served_part state.now) result out.old out.new }
 {
     put_named(out, b" clients ", state.clients)?;
     put_named(out, b" pairs ", state.pairs)?;
@@ -136,10 +105,7 @@ fn put_served<W: Write>(out: &mut CountedWriter<'_, W>, state: &DeskState) -> Re
 
 /// The numbers of the desk's machine.
 fn put_machine<W: Write>(out: &mut CountedWriter<'_, W>, state: &DeskState) -> Result<(), Failed>
-    ensures ok { OnOk result (Appends (W.contents (writer_of out.old)) (W.contents (writer_of out.new)) (versions_part state.now ++ waiting_part state.now ++ journal_part state.now ++ life_part state.now)) }
-    ensures refused { IfErr result (λ failed. failed ≡ Failed.Code Refusal.Write) }
-    ensures counts { CountsFailure (failed_writes out.old) (failed_writes out.new) result }
-    ensures same { IsSameWriter out.old out.new }
+    ensures { Puts W.contents (versions_part state.now ++ waiting_part state.now ++ journal_part state.now ++ life_part state.now) result out.old out.new }
 {
     put_versions(out, state)?;
     put_waiting(out, state)?;
@@ -147,12 +113,9 @@ fn put_machine<W: Write>(out: &mut CountedWriter<'_, W>, state: &DeskState) -> R
     put_life(out, state)
 }
 
-/// Its threads and what is around it, up to the end of the line.
+/// Its threads and its surroundings, up to the end of the line.
 fn put_rest<W: Write>(out: &mut CountedWriter<'_, W>, state: &DeskState) -> Result<(), Failed>
-    ensures ok { OnOk result (Appends (W.contents (writer_of out.old)) (W.contents (writer_of out.new)) (threads_part state.now ++ arcs_part state.now ++ served_part state.now ++ codes "\n")) }
-    ensures refused { IfErr result (λ failed. failed ≡ Failed.Code Refusal.Write) }
-    ensures counts { CountsFailure (failed_writes out.old) (failed_writes out.new) result }
-    ensures same { IsSameWriter out.old out.new }
+    ensures { Puts W.contents (threads_part state.now ++ arcs_part state.now ++ served_part state.now ++ codes "\n") result out.old out.new }
 {
     put_threads(out, state)?;
     put_arcs(out, state)?;
@@ -160,26 +123,20 @@ fn put_rest<W: Write>(out: &mut CountedWriter<'_, W>, state: &DeskState) -> Resu
     out.write_all(b"\n")
 }
 
-/// How the desk stands, in a line.
+/// The state of the desk, in a line.
 fn put_line<W: Write>(out: &mut CountedWriter<'_, W>, state: &DeskState) -> Result<(), Failed>
-    ensures ok { OnOk result (Appends (W.contents (writer_of out.old)) (W.contents (writer_of out.new)) (state_line state.now)) }
-    ensures refused { IfErr result (λ failed. failed ≡ Failed.Code Refusal.Write) }
-    ensures counts { CountsFailure (failed_writes out.old) (failed_writes out.new) result }
-    ensures same { IsSameWriter out.old out.new }
+    ensures { Puts W.contents (state_line state.now) result out.old out.new }
 {
     put_machine(out, state)?;
     put_rest(out, state)
 }
 
-/// How the desk stands, or `no CODE`
+/// The state of the desk, or `no CODE`.
 pub(crate) fn put_state<W: Write>(
     out: &mut CountedWriter<'_, W>,
     stood: Result<DeskState, Refusal>,
 ) -> Result<(), Failed>
-    ensures ok { OnOk result (Appends (W.contents (writer_of out.old)) (W.contents (writer_of out.new)) (state_or_refusal stood)) }
-    ensures refused { IfErr result (λ failed. failed ≡ Failed.Code Refusal.Write) }
-    ensures counts { CountsFailure (failed_writes out.old) (failed_writes out.new) result }
-    ensures same { IsSameWriter out.old out.new }
+    ensures { Puts W.contents (state_or_refusal stood) result out.old out.new }
 {
     match stood {
         Ok(state) => put_line(out, &state),

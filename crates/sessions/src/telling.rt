@@ -1,11 +1,10 @@
-//! The answers of a session, written and sent out.
-ghost use Rattle.std.specs.Prelude.{◌≡◌, IfErr, OnOk};
-ghost use Rattle.std.specs.Io.KnownBytes.{Appends};
-ghost use Rattle.printing.specs.Counting.{failed_writes, writer_of, IsSameWriter, CountsFailure};
+//! The answers of a session, written and sent.
+ghost use Rattle.std.specs.Prelude.{◌≡◌};
 ghost use Rattle.printing.specs.Looks.{look_lines};
 ghost use Rattle.printing.specs.Printed.{refusal_line};
 ghost use Rattle.printing.specs.Replied.{printed_reply};
 ghost use Rattle.roadnet.specs.Numbers.{number_of};
+ghost use Rattle.printing.specs.Writers.{Puts};
 ghost use Rattle.sessions.specs.Stated.{state_or_refusal};
 ghost use Rattle.sessions.specs.Told.{copied_or_refusal};
 ghost use Rattle.sessions.specs.Turns.{asks_alone, fault_number, version_or_refusal};
@@ -20,7 +19,7 @@ use printing::{
 use roadnet::Refusal;
 use std::io::Write;
 
-/// The number by which a command is refused in a session that asks alone.
+/// The number with which a command is refused in a session that may only ask.
 const ASKS_ALONE: u8 = 64;
 
 /// The number of a fault: 1, 5, or 13 of a group.
@@ -34,15 +33,12 @@ fn number_of_fault(code: Code) -> u8
     }
 }
 
-/// The lines of a reply, sent out.
+/// The lines of a reply, sent.
 pub(crate) fn tell_reply<W: Write>(
     out: &mut CountedWriter<'_, W>,
     reply: &Replied,
 ) -> Result<(), Failed>
-    ensures ok { OnOk result (Appends (W.contents (writer_of out.old)) (W.contents (writer_of out.new)) (printed_reply reply.now)) }
-    ensures refused { IfErr result (λ failed. failed ≡ Failed.Code Refusal.Write) }
-    ensures counts { CountsFailure (failed_writes out.old) (failed_writes out.new) result }
-    ensures same { IsSameWriter out.old out.new }
+    ensures { Puts W.contents (printed_reply reply.now) result out.old out.new }
 {
     put_reply(out, reply)?;
     out.flush()
@@ -53,10 +49,7 @@ fn put_shown<W: Write>(
     out: &mut CountedWriter<'_, W>,
     shown: Result<u64, Refusal>,
 ) -> Result<(), Failed>
-    ensures ok { OnOk result (Appends (W.contents (writer_of out.old)) (W.contents (writer_of out.new)) (version_or_refusal shown)) }
-    ensures refused { IfErr result (λ failed. failed ≡ Failed.Code Refusal.Write) }
-    ensures counts { CountsFailure (failed_writes out.old) (failed_writes out.new) result }
-    ensures same { IsSameWriter out.old out.new }
+    ensures { Puts W.contents (version_or_refusal shown) result out.old out.new }
 {
     match shown {
         Ok(version) => put_version(out, version),
@@ -64,30 +57,24 @@ fn put_shown<W: Write>(
     }
 }
 
-/// `v V` or `no CODE`, sent out.
+/// `v V` or `no CODE`, sent.
 pub(crate) fn tell_version<W: Write>(
     out: &mut CountedWriter<'_, W>,
     shown: Result<u64, Refusal>,
 ) -> Result<(), Failed>
-    ensures ok { OnOk result (Appends (W.contents (writer_of out.old)) (W.contents (writer_of out.new)) (version_or_refusal shown)) }
-    ensures refused { IfErr result (λ failed. failed ≡ Failed.Code Refusal.Write) }
-    ensures counts { CountsFailure (failed_writes out.old) (failed_writes out.new) result }
-    ensures same { IsSameWriter out.old out.new }
+    ensures { Puts W.contents (version_or_refusal shown) result out.old out.new }
 {
     put_shown(out, shown)?;
     out.flush()
 }
 
-/// What is seen at a glance of what is asked for, behind the version, sent out. The view is held until then.
+/// What is seen at a glance of what is asked for, after the version, sent. The view is held until then.
 pub(crate) fn tell_look<N: Naming, W: Write>(
     out: &mut CountedWriter<'_, W>,
     glance: &Glance<N>,
     look: Look,
 ) -> Result<(), Failed>
-    ensures ok { OnOk result (Appends (W.contents (writer_of out.old)) (W.contents (writer_of out.new)) (look_lines glance.now.view.network glance.now.view.version look)) }
-    ensures refused { IfErr result (λ failed. failed ≡ Failed.Code Refusal.Write) }
-    ensures counts { CountsFailure (failed_writes out.old) (failed_writes out.new) result }
-    ensures same { IsSameWriter out.old out.new }
+    ensures { Puts W.contents (look_lines glance.now.view.network glance.now.view.version look) result out.old out.new }
 {
     put_look(out, glance.network(), glance.version(), look)?;
     out.flush()
@@ -98,10 +85,7 @@ fn put_copied<W: Write>(
     out: &mut CountedWriter<'_, W>,
     copied: Result<u64, Refusal>,
 ) -> Result<(), Failed>
-    ensures ok { OnOk result (Appends (W.contents (writer_of out.old)) (W.contents (writer_of out.new)) (copied_or_refusal copied)) }
-    ensures refused { IfErr result (λ failed. failed ≡ Failed.Code Refusal.Write) }
-    ensures counts { CountsFailure (failed_writes out.old) (failed_writes out.new) result }
-    ensures same { IsSameWriter out.old out.new }
+    ensures { Puts W.contents (copied_or_refusal copied) result out.old out.new }
 {
     match copied {
         Ok(version) => put_numbered(out, b"copied ", version),
@@ -109,65 +93,50 @@ fn put_copied<W: Write>(
     }
 }
 
-/// `copied V` or `no CODE`, sent out.
+/// `copied V` or `no CODE`, sent.
 pub(crate) fn tell_copied<W: Write>(
     out: &mut CountedWriter<'_, W>,
     copied: Result<u64, Refusal>,
 ) -> Result<(), Failed>
-    ensures ok { OnOk result (Appends (W.contents (writer_of out.old)) (W.contents (writer_of out.new)) (copied_or_refusal copied)) }
-    ensures refused { IfErr result (λ failed. failed ≡ Failed.Code Refusal.Write) }
-    ensures counts { CountsFailure (failed_writes out.old) (failed_writes out.new) result }
-    ensures same { IsSameWriter out.old out.new }
+    ensures { Puts W.contents (copied_or_refusal copied) result out.old out.new }
 {
     put_copied(out, copied)?;
     out.flush()
 }
 
-/// `no CODE`, sent out.
+/// `no CODE`, sent.
 pub(crate) fn tell_refusal<W: Write>(
     out: &mut CountedWriter<'_, W>,
     refusal: Refusal,
 ) -> Result<(), Failed>
-    ensures ok { OnOk result (Appends (W.contents (writer_of out.old)) (W.contents (writer_of out.new)) (refusal_line (number_of refusal))) }
-    ensures refused { IfErr result (λ failed. failed ≡ Failed.Code Refusal.Write) }
-    ensures counts { CountsFailure (failed_writes out.old) (failed_writes out.new) result }
-    ensures same { IsSameWriter out.old out.new }
+    ensures { Puts W.contents (refusal_line (number_of refusal)) result out.old out.new }
 {
     put_refusal(out, refusal.number())?;
     out.flush()
 }
 
-/// How the desk stands, or `no CODE`, sent out.
+/// The state of the desk, or `no CODE`, sent.
 pub(crate) fn tell_state<W: Write>(
     out: &mut CountedWriter<'_, W>,
     stood: Result<DeskState, Refusal>,
 ) -> Result<(), Failed>
-    ensures ok { OnOk result (Appends (W.contents (writer_of out.old)) (W.contents (writer_of out.new)) (state_or_refusal stood)) }
-    ensures refused { IfErr result (λ failed. failed ≡ Failed.Code Refusal.Write) }
-    ensures counts { CountsFailure (failed_writes out.old) (failed_writes out.new) result }
-    ensures same { IsSameWriter out.old out.new }
+    ensures { Puts W.contents (state_or_refusal stood) result out.old out.new }
 {
     put_state(out, stood)?;
     out.flush()
 }
 
-/// `no CODE` for a line or a group that has a fault, sent out.
+/// `no CODE` for a line or a group that has a fault, sent.
 pub(crate) fn tell_fault<W: Write>(out: &mut CountedWriter<'_, W>, code: Code) -> Result<(), Failed>
-    ensures ok { OnOk result (Appends (W.contents (writer_of out.old)) (W.contents (writer_of out.new)) (refusal_line (fault_number code))) }
-    ensures refused { IfErr result (λ failed. failed ≡ Failed.Code Refusal.Write) }
-    ensures counts { CountsFailure (failed_writes out.old) (failed_writes out.new) result }
-    ensures same { IsSameWriter out.old out.new }
+    ensures { Puts W.contents (refusal_line (fault_number code)) result out.old out.new }
 {
     put_refusal(out, number_of_fault(code))?;
     out.flush()
 }
 
-/// `no 64` for a command or a group in a session that asks alone, sent out.
+/// `no 64` for a command or a group in a session that may only ask, sent.
 pub(crate) fn tell_asks_alone<W: Write>(out: &mut CountedWriter<'_, W>) -> Result<(), Failed>
-    ensures ok { OnOk result (Appends (W.contents (writer_of out.old)) (W.contents (writer_of out.new)) (refusal_line asks_alone)) }
-    ensures refused { IfErr result (λ failed. failed ≡ Failed.Code Refusal.Write) }
-    ensures counts { CountsFailure (failed_writes out.old) (failed_writes out.new) result }
-    ensures same { IsSameWriter out.old out.new }
+    ensures { Puts W.contents (refusal_line asks_alone) result out.old out.new }
 {
     put_refusal(out, ASKS_ALONE)?;
     out.flush()

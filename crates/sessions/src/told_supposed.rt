@@ -1,7 +1,6 @@
-//! The answers about what is supposed, written and sent out.
-ghost use Rattle.std.specs.Prelude.{◌≡◌, IfErr, OnOk};
-ghost use Rattle.std.specs.Io.KnownBytes.{Appends};
-ghost use Rattle.printing.specs.Counting.{failed_writes, writer_of, IsSameWriter, CountsFailure};
+//! The answers about what is supposed, written and sent.
+
+ghost use Rattle.printing.specs.Writers.{Puts};
 ghost use Rattle.sessions.specs.Supposing.{forgotten_line, suppose_line, supposed_lines, supposed_or_refusal};
 
 use printing::{CountedWriter, Failed, put_answer, put_numbered, put_refusal};
@@ -9,26 +8,20 @@ use roadnet::{OutOfMemory, Refusal};
 use rows::{Query, Reply};
 use std::io::Write;
 
-/// `suppose V`, sent out.
+/// `suppose V`, sent.
 pub(crate) fn tell_supposed<W: Write>(
     out: &mut CountedWriter<'_, W>,
     version: u64,
 ) -> Result<(), Failed>
-    ensures ok { OnOk result (Appends (W.contents (writer_of out.old)) (W.contents (writer_of out.new)) (suppose_line version)) }
-    ensures refused { IfErr result (λ failed. failed ≡ Failed.Code Refusal.Write) }
-    ensures counts { CountsFailure (failed_writes out.old) (failed_writes out.new) result }
-    ensures same { IsSameWriter out.old out.new }
+    ensures { Puts W.contents (suppose_line version) result out.old out.new }
 {
     put_numbered(out, b"suppose ", version)?;
     out.flush()
 }
 
-/// `forgotten`, sent out.
+/// `forgotten`, sent.
 pub(crate) fn tell_forgotten<W: Write>(out: &mut CountedWriter<'_, W>) -> Result<(), Failed>
-    ensures ok { OnOk result (Appends (W.contents (writer_of out.old)) (W.contents (writer_of out.new)) forgotten_line) }
-    ensures refused { IfErr result (λ failed. failed ≡ Failed.Code Refusal.Write) }
-    ensures counts { CountsFailure (failed_writes out.old) (failed_writes out.new) result }
-    ensures same { IsSameWriter out.old out.new }
+    ensures { Puts W.contents forgotten_line result out.old out.new }
 {
     out.write_all(b"forgotten\n")?;
     out.flush()
@@ -41,10 +34,7 @@ fn put_supposed<W: Write>(
     query: &Query,
     reply: Reply,
 ) -> Result<(), Failed>
-    ensures ok { OnOk result (Appends (W.contents (writer_of out.old)) (W.contents (writer_of out.new)) (supposed_lines version query.now reply)) }
-    ensures refused { IfErr result (λ failed. failed ≡ Failed.Code Refusal.Write) }
-    ensures counts { CountsFailure (failed_writes out.old) (failed_writes out.new) result }
-    ensures same { IsSameWriter out.old out.new }
+    ensures { Puts W.contents (supposed_lines version query.now reply) result out.old out.new }
 {
     put_numbered(out, b"s ", version)?;
     put_answer(out, query, reply)
@@ -57,10 +47,7 @@ fn put_found<W: Write>(
     query: &Query,
     found: Result<Reply, OutOfMemory>,
 ) -> Result<(), Failed>
-    ensures ok { OnOk result (Appends (W.contents (writer_of out.old)) (W.contents (writer_of out.new)) (supposed_or_refusal version query.now found)) }
-    ensures refused { IfErr result (λ failed. failed ≡ Failed.Code Refusal.Write) }
-    ensures counts { CountsFailure (failed_writes out.old) (failed_writes out.new) result }
-    ensures same { IsSameWriter out.old out.new }
+    ensures { Puts W.contents (supposed_or_refusal version query.now found) result out.old out.new }
 {
     match found {
         Ok(reply) => put_supposed(out, version, query, reply),
@@ -68,17 +55,14 @@ fn put_found<W: Write>(
     }
 }
 
-/// `s V` and the line of an answer, or `no 11`, sent out.
+/// `s V` and the line of an answer, or `no 11`, sent.
 pub(crate) fn tell_found<W: Write>(
     out: &mut CountedWriter<'_, W>,
     version: u64,
     query: &Query,
     found: Result<Reply, OutOfMemory>,
 ) -> Result<(), Failed>
-    ensures ok { OnOk result (Appends (W.contents (writer_of out.old)) (W.contents (writer_of out.new)) (supposed_or_refusal version query.now found)) }
-    ensures refused { IfErr result (λ failed. failed ≡ Failed.Code Refusal.Write) }
-    ensures counts { CountsFailure (failed_writes out.old) (failed_writes out.new) result }
-    ensures same { IsSameWriter out.old out.new }
+    ensures { Puts W.contents (supposed_or_refusal version query.now found) result out.old out.new }
 {
     put_found(out, version, query, found)?;
     out.flush()

@@ -5,7 +5,7 @@ use Rattle.sessions.proofs.serving.serve_over.Goals as goal
 
 pub loop-init : goal.loop-init
 loop-init g c = record {
-  far = far_begun (g.C.Copies.copying c.args.terms.copies.now) c.args.terms.last_line g.N.Naming.origin _ _ _ _ _ _ _ _ c.new-session.ensures.place c.new-session.ensures.receipts c.new-session.ensures.last c.new-session.ensures.draft c.new-supposing.ensures.group c.new-supposing.ensures.supposed;
+  far = far_begun (g.C.Copies.copying c.args.terms.copies.now) c.args.terms.last_line g.N.Naming.origin _ _ c.new-session.result c.new-session.ensures.place c.new-session.ensures.receipts c.new-session.ensures.last c.new-session.ensures.group c.new-session.ensures.supposed;
   failed_reads = refl;
   same_reader = refl;
   failed_writes = refl;
@@ -14,8 +14,8 @@ loop-init g c = record {
 
 pub loop-preserved : goal.loop-preserved
 loop-preserved g c = record {
-  far = far_turned (g.C.Copies.copying c.args.terms.copies.now) c.args.terms.last_line g.N.Naming.origin _ _ _ _ _ _ _ _ _ _ _ _ _ _ _ _ _ _ c.in-Ok-Some.line (search rules) c.loop.invariant.far (search rules)
-      (λ supposing draft has_group has. rw c.in_default.is at (c.answer-told.ensures.told supposing draft has_group has)) c.answer-told.ensures.draft c.answer-told.ensures.group c.answer-told.ensures.begins;
+  far = far_turned g.W.Write.contents (g.C.Copies.copying c.args.terms.copies.now) c.args.terms.last_line g.N.Naming.origin _ _ _ _ _ _ _ _ c.in-Ok-Some.line (search rules) c.loop.invariant.far (search rules)
+      (rw c.in_default.is at c.answer-told.ensures.told) c.answer-told.ensures.begins;
   failed_reads = search rules;
   same_reader = search rules;
   failed_writes = search rules;
@@ -24,4 +24,4 @@ loop-preserved g c = record {
 
 pub returns-then-is_quit-clause-answered : goal.returns-then-is_quit-clause-answered
 returns-then-is_quit-clause-answered g c =
-    far_quit (g.C.Copies.copying c.args.terms.copies.now) c.args.terms.last_line g.N.Naming.origin _ _ _ _ _ _ _ _ _ _ _ c.in-Ok-Some.line c.next_line.result (tt {0}) (c.in-Ok-Some.is ∙ ap (λ (o : Option Line). Ok o) c.in-Ok-Some.field-0-is) (sym c.is_quit.ensures ∙ c.if-is_quit.true) c.loop.invariant.far c.next_line.ensures.line
+    far_quit (g.C.Copies.copying c.args.terms.copies.now) c.args.terms.last_line g.N.Naming.origin _ _ _ _ _ _ c.ended-then-is_quit.result c.in-Ok-Some.line c.next_line.result (tt {0}) c.ended-then-is_quit.ensures.place c.ended-then-is_quit.ensures.receipts (c.in-Ok-Some.is ∙ ap (λ (o : Option Line). Ok o) c.in-Ok-Some.field-0-is) (sym c.is_quit.ensures ∙ c.if-is_quit.true) c.loop.invariant.far c.next_line.ensures.line

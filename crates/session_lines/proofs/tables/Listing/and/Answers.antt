@@ -1,4 +1,4 @@
-use Rattle.session_lines.proofs.Tabled.{no_number_row, still_faulty}
+use Rattle.session_lines.proofs.Tabled.{no_number_row, still_faulty, still_unkept}
 use Rattle.session_lines.proofs.tables.Listing.and.Goals as goal
 
 pub returns-in-Some : goal.returns-in-Some
@@ -9,3 +9,6 @@ returns-in-None c row field are is = λ more. no_number_row row field more (rw c
 
 pub returns-in-Faulty : goal.returns-in-Faulty
 returns-in-Faulty c row field are is = still_faulty row field (rw c.in-Faulty.is at are)
+
+pub returns-in-Unkept : goal.returns-in-Unkept
+returns-in-Unkept c row field are is = still_unkept row field (rw c.in-Unkept.is at are)

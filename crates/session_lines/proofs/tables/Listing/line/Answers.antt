@@ -10,4 +10,4 @@ pub returns-in-Faulty : goal.returns-in-Faulty
 returns-in-Faulty c row are = c.bad_line.ensures (codes "table" ∷ row) (faulty_line row (rw c.in-Faulty.is at are))
 
 pub returns-in-Unkept : goal.returns-in-Unkept
-returns-in-Unkept c row are = refl
+returns-in-Unkept c row are = (refl, rw c.in-Unkept.is at are)

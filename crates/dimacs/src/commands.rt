@@ -48,8 +48,8 @@ fn kind_of(line: &[u8]) -> Kind<'_>
     }
 }
 
-/// The one number behind the word of a command or of a script's event, at most 2^63 - 1. Refused are other fields than one numeral (`BadLine`),
-/// and a numeral with a minus or with a greater size (`NumberRange`).
+/// The one number after the word of a command or of a script's event, at most 2^63 - 1. It fails with `BadLine` unless there is one numeral and nothing
+/// else, and with `NumberRange` if the numeral has a minus or is greater.
 ///
 /// ` 7` gives 7; ` 7 8` and ` x` are refused with `BadLine`, ` -7` with `NumberRange`.
 pub fn number(numbers: &[u8]) -> Result<u64, Code>
@@ -66,7 +66,7 @@ pub fn number(numbers: &[u8]) -> Result<u64, Code>
     }
 }
 
-/// The two numbers behind such a word, as `number`.
+/// The two numbers after such a word, judged as by `number`.
 pub fn two_numbers(numbers: &[u8]) -> Result<(u64, u64), Code>
     ensures { result ≡ numbers_read (two_numerals (fields numbers.now)) }
 {
@@ -81,7 +81,7 @@ pub fn two_numbers(numbers: &[u8]) -> Result<(u64, u64), Code>
     }
 }
 
-/// The three numbers behind such a word, as `number`.
+/// The three numbers after such a word, judged as by `number`.
 pub fn three_numbers(numbers: &[u8]) -> Result<(u64, u64, u64), Code>
     ensures { result ≡ three_read (three_numerals (fields numbers.now)) }
 {
@@ -96,8 +96,8 @@ pub fn three_numbers(numbers: &[u8]) -> Result<(u64, u64, u64), Code>
     }
 }
 
-/// What a line of a command text says that neither begins nor ends a group: a command, or nothing. Refused are another word or other
-/// numbers than a command has (`BadLine`), and a number with a minus or above 2^63 - 1 (`NumberRange`).
+/// What a line of a command text says that neither begins nor ends a group: a command, or nothing. It fails with `BadLine` for another word or other
+/// numbers than the command has, and with `NumberRange` for a number with a minus or above 2^63 - 1.
 pub fn read_command(line: &[u8]) -> Result<Option<Command>, Code>
     ensures { ReadsLine (fields line.now) result }
 {
@@ -123,7 +123,7 @@ pub enum Bound<'a> {
     Other,
 }
 
-/// Whether the line begins a group or ends one. What follows its word is not looked at.
+/// Whether the line begins a group or ends one. What follows its word is not examined.
 pub fn bound_of(line: &[u8]) -> Bound<'_>
     ensures { IsBound (fields line.now) result }
 {
@@ -134,14 +134,14 @@ pub fn bound_of(line: &[u8]) -> Bound<'_>
     }
 }
 
-/// Adds a group. Says whether there was memory for it.
+/// Adds a group. Returns whether there was memory for it.
 fn keep(closed: &mut Vec<Group>, group: Group) -> bool
     ensures { closed.new.items ≡ (if result then closed.old.items ++ group ∷ [] else closed.old.items) }
 {
     closed.push(group).is_ok()
 }
 
-/// Whether no field is there.
+/// Whether there is no field.
 pub fn is_blank(rest: &[u8]) -> bool
     ensures { result ≡ is_empty (fields rest.now) }
 {
@@ -197,7 +197,7 @@ impl GroupLines {
         Ok(())
     }
 
-    /// Takes a line that says this command.
+    /// Takes a line with this command.
     fn add(&mut self, command: Command) -> Result<(), Code>
         ensures reads_nothing { IfErr result (λ code. code ≢ Code.Read) }
         ensures takes { (earlier : List Row) (row : Row) → begins row ≡ false → ends row ≡ false → command_code commands earlier row ≡ None → command_of row ≡ Some command → HasGroups earlier self.old → Takes group_code HasGroups earlier row self.new result }
@@ -262,7 +262,7 @@ ghost use Rattle.dimacs.specs.Commanded.{group_text};
 ghost use Rattle.dimacs.specs.Counts.{CountsFailures};
 ghost use Rattle.dimacs.specs.Texts.{InMemory, Ends, Reads, map_ok};
 
-/// The groups at the end of a text, which must not be within one.
+/// The groups at the end of a text. The text must not end within a group.
 fn groups_at_end(ended: Ended<GroupLines>) -> Result<Vec<Group>, Fault>
     ensures reads_nothing { IfErr result (λ fault. fault.code ≢ Code.Read) }
     ensures ends { (lines : List Row) → HasGroups lines ended.taker → ended.lines ≡ length lines → Ends group_text lines (map_ok vec_items result) }
@@ -282,10 +282,10 @@ fn groups_at_end(ended: Ended<GroupLines>) -> Result<Vec<Group>, Fault>
     Ok(closed)
 }
 
-/// The groups of commands that a text gives, in the order of their lines, or the text's first fault. The lines `begin` and `end` enclose
-/// the commands of a group; a command elsewhere is a group of one. Whether numbers are in range is judged where the commands are carried
-/// out. The count of failed calls tells a failed read from a fault of the text. After an `Err` the text is not used again. It takes 40 bytes
-/// a group, and 32 a command of a group that is enclosed.
+/// The groups of commands in a text, in the order of their lines, or the text's first fault. The lines `begin` and `end` enclose the commands of a group;
+/// any other command is a group of one. Whether numbers are in range is judged when the commands are carried out. The count of failed calls distinguishes a
+/// failed read from a fault of the text. After an `Err` the text is not used again. The call takes 40 bytes for each group, and 32 for each command between
+/// `begin` and `end`.
 ///
 /// With `/` for a line feed, `begin / close 7 / set 8 4 / end / reopen 7` gives two groups, of two commands and of one. `begin / end` gives
 /// line 2, `GroupSize`; `begin / close 7` gives line 2, `OpenGroup`; `begin / begin` and `end` give `BadLine`.
@@ -297,7 +297,7 @@ pub fn read_commands<S: Text>(alloc: Global, text: &mut S) -> Result<Vec<Group>,
     groups_at_end(ended)
 }
 
-/// The groups of commands that a text in memory gives, as `read_commands`.
+/// The groups of commands in a text in memory, as by `read_commands`.
 pub fn parse_commands(alloc: Global, bytes: &[u8]) -> Result<Vec<Group>, Fault>
     ensures { Reads group_text bytes.now InMemory (map_ok vec_items result) }
 {

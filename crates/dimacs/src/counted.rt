@@ -8,8 +8,8 @@ use crate::feed::{Feed, TakenBytes};
 use crate::taking::TakeLines;
 use std::io::{self, BufRead, ErrorKind};
 
-/// A reader, and how many of its calls have failed, up to `u64::MAX`. A call that was interrupted is made again and counts as
-/// none. A reader that goes on, within one reading, until its calls and bytes are 2^64 - 2 together counts as one that fails.
+/// A reader, and how many of its calls have failed, up to `u64::MAX`. A call that was interrupted is repeated and does not count. A reader that goes on,
+/// within one reading, until its calls and bytes are 2^64 - 2 together counts as one that fails.
 #[derive(Drop)]
 pub struct Counted<'r, R> {
     reader: &'r mut R,
@@ -34,7 +34,7 @@ const NOTHING: TakenBytes = TakenBytes {
     at_run: false,
 };
 
-/// Calls the reader once, and feeds what it shows.
+/// Calls the reader once, and feeds the bytes that it offers.
 fn feed_from<R: BufRead, T: TakeLines>(reader: &mut R, feed: &mut Feed<T>) -> Turn
     requires { feed.old.lines + feed.old.left < 2 ^ 64 - 1 }
     ensures turns { (known : Option (List ℕ))
@@ -71,7 +71,7 @@ fn feed_from<R: BufRead, T: TakeLines>(reader: &mut R, feed: &mut Feed<T>) -> Tu
     }
 }
 
-/// Calls the reader once, and takes the first byte that it shows; none where there are no more. At an error nothing is taken.
+/// Calls the reader once, and takes the first byte that it offers; nothing at the end. After an error no byte is taken.
 fn first_byte<R: BufRead>(reader: &mut R) -> io::Result<Option<u8>>
     ensures { TakesByte (R.remaining reader.old) (R.remaining reader.new) result }
 {
@@ -83,7 +83,7 @@ fn first_byte<R: BufRead>(reader: &mut R) -> io::Result<Option<u8>>
     Ok(Some(byte))
 }
 
-/// The next byte; none where there are no more. A call that was interrupted is made again.
+/// The next byte; nothing at the end. A call that was interrupted is repeated.
 fn byte_of<R: BufRead>(reader: &mut R) -> Result<Option<u8>, Code>
     ensures bytes { TakesByte (R.remaining reader.old) (R.remaining reader.new) result }
     ensures refused { IfErr result (λ code. code ≡ Code.Read) }
@@ -118,7 +118,7 @@ impl<'r, R: BufRead> Counted<'r, R> {
         self.failed
     }
 
-    /// Calls the reader once, and feeds what it shows. The count goes up where the call fails, and only there.
+    /// Calls the reader once, and feeds the bytes that it offers. The count goes up if the call fails, and only then.
     pub(crate) fn turn<T: TakeLines>(&mut self, feed: &mut Feed<T>) -> Turn
         requires { feed.old.lines + feed.old.left < 2 ^ 64 - 1 }
         ensures turns { (known : Option (List ℕ))
@@ -146,8 +146,8 @@ impl<'r, R: BufRead> Counted<'r, R> {
         self.failed = self.failed.saturating_add(1);
     }
 
-    /// The next byte of the reader; none where there are no more. The one error is a failed call (`Read`), at which no byte is taken: the
-    /// count goes up there, and only there.
+    /// The next byte of the reader; nothing at the end. The only error is a failed call (`Read`). Then no byte is taken and the count goes up; it goes up
+    /// in no other case.
     pub fn next_byte(&mut self) -> Result<Option<u8>, Code>
         ensures bytes { TakesByte (R.remaining (reader_of self.old)) (R.remaining (reader_of self.new)) result }
         ensures refused { IfErr result (λ code. code ≡ Code.Read) }

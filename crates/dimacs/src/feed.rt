@@ -21,7 +21,7 @@ use crate::taking::TakeLines;
 use std::alloc::Global;
 use std::io::BufRead;
 
-/// What is known of a text while its bytes come in: `lines` lines were taken, and `kept` has the front of the next one.
+/// What is known of a text while its bytes come in: `lines` lines were taken, and `kept` has the beginning of the next one.
 #[derive(Drop)]
 pub(crate) struct Feed<T> {
     pub(crate) taker: T,
@@ -31,15 +31,14 @@ pub(crate) struct Feed<T> {
     pub(crate) left: u64,
 }
 
-/// How many bytes were taken, and whether a line `run` ends them.
+/// How many bytes were taken, and whether they end with a line `run`.
 #[derive(Clone, Copy)]
 pub(crate) struct TakenBytes {
     pub(crate) count: usize,
     pub(crate) at_run: bool,
 }
 
-/// What the lines of a text have made of the value that part them, their number, and whether a line `run`, which is not one
-/// of them, follows.
+/// What a value has made of the lines that it was given, their number, and whether a line `run` follows, which is not one of them.
 #[derive(Drop)]
 pub struct Ended<T> {
     pub taker: T,
@@ -48,7 +47,7 @@ pub struct Ended<T> {
 }
 
 impl<T: TakeLines> Feed<T> {
-    /// Takes the line that begins with what is kept and ends with this piece. Nothing is kept then.
+    /// Takes the line that begins with what is kept and ends with this piece. After it nothing is kept.
     fn take_whole(&mut self, piece: &[u8]) -> Result<bool, Code>
         ensures reads_nothing { IfErr result (λ code. code ≢ Code.Read) }
         ensures empty { OnOk result (self.new.kept.bytes.items ≡ []) }
@@ -69,7 +68,7 @@ impl<T: TakeLines> Feed<T> {
         self.kept.take_whole(&mut self.taker, self.until_run, piece)
     }
 
-    /// Whether what is kept is the mark of a comment alone.
+    /// Whether only the mark of a comment is kept.
     fn is_comment(&self) -> bool
         ensures yes { result ≡ true → self.now.kept.bytes.items ≡ T.COMMENT ∷ [] }
         ensures no { self.now.kept.bytes.items ≡ T.COMMENT ∷ [] → result ≡ true }
@@ -77,7 +76,7 @@ impl<T: TakeLines> Feed<T> {
         self.kept.is_byte(T::COMMENT)
     }
 
-    /// Keeps bytes too, without blanks behind a blank.
+    /// Keeps more bytes, without blanks that follow a blank.
     fn append_fields(&mut self, piece: &[u8]) -> Result<(), Code>
         ensures kept { OnOk result ((front : List ℕ) → StandsFor T.COMMENT front self.old.kept.bytes.items
             → (self.old.kept.bytes.items ≡ T.COMMENT ∷ [] → ⊥) → StandsFor T.COMMENT (front ++ piece.now) self.new.kept.bytes.items) }
@@ -93,7 +92,7 @@ impl<T: TakeLines> Feed<T> {
         self.kept.append(piece)
     }
 
-    /// Keeps of a comment its mark alone.
+    /// Of a comment, keeps only the mark.
     fn keep_mark(&mut self) -> Result<(), Code>
         ensures kept { OnOk result (self.new.kept.bytes.items ≡ T.COMMENT ∷ []) }
         ensures refused { IfErr result (λ code. code ≡ Code.OutOfMemory) }
@@ -106,8 +105,8 @@ impl<T: TakeLines> Feed<T> {
         self.kept.append(&[T::COMMENT])
     }
 
-    /// Looks at what is kept, once it is twice as much as at the last look: of a comment its mark is kept, the fault of a line
-    /// that overflows is told, and of a long numeral at the end as many digits are kept as tell its size.
+    /// Examines what is kept, once that is twice as much as at the last look. Of a comment only the mark is kept, the fault of a line that overflows is
+    /// reported, and of a long numeral at the end only as many digits are kept as determine its size.
     fn look(&mut self) -> Result<(), Code>
         ensures kept { OnOk result ((front : List ℕ) → StandsFor T.COMMENT front self.old.kept.bytes.items
             → StandsFor T.COMMENT front self.new.kept.bytes.items) }
@@ -141,8 +140,8 @@ impl<T: TakeLines> Feed<T> {
         }
     }
 
-    /// Keeps the front of the next line, but for blanks behind a blank; of a comment only its mark. The fault of a line that
-    /// overflows is told at once.
+    /// Keeps the beginning of the next line, without blanks that follow a blank, and of a comment only its mark. The fault of a line that overflows is
+    /// reported at once.
     fn keep(&mut self, piece: &[u8]) -> Result<(), Code>
         ensures kept { OnOk result ((front : List ℕ) → StandsFor T.COMMENT front self.old.kept.bytes.items
             → StandsFor T.COMMENT (front ++ piece.now) self.new.kept.bytes.items) }
@@ -169,8 +168,7 @@ impl<T: TakeLines> Feed<T> {
         self.look()
     }
 
-    /// Takes the lines that end in these bytes, and keeps the front of the next one. Stops behind the line `run`, where it is
-    /// told to.
+    /// Takes the lines that end in these bytes, and keeps the beginning of the next one. If it is asked to, it stops after the line `run`.
     pub(crate) fn take(&mut self, bytes: &[u8]) -> Result<TakenBytes, Code>
         requires { self.old.lines + length bytes.now < 2 ^ 64 }
         ensures reads_nothing { IfErr result (λ code. code ≢ Code.Read) }
@@ -201,7 +199,7 @@ impl<T: TakeLines> Feed<T> {
         })
     }
 
-    /// Ends the text, whose last line may be kept.
+    /// Ends the text. What is kept is its last line.
     pub(crate) fn end(mut self) -> Result<Ended<T>, Fault>
         requires { self.lines + 1 < 2 ^ 64 }
         ensures ends { (text : List ℕ) → Within T.judge T.has_taken T.COMMENT text [] self
@@ -271,9 +269,8 @@ pub(crate) fn parse_lines<T: TakeLines>(taker: T, bytes: &[u8]) -> Result<Ended<
     })
 }
 
-/// Takes the lines that a reader gives, up to the first that has a fault, or, where it is to read until a line `run`, up to
-/// and without that line; the reader then has the bytes behind that line left. The value that takes them has taken none yet.
-/// After an `Err` the reader is not used again.
+/// Takes the lines of a reader, up to the first that has a fault; or, if it is to read until a line `run`, up to that line and without it, and then the
+/// bytes after it are still in the reader. The value that takes them has taken none yet. After an `Err` the reader is not used again.
 pub(crate) fn read_lines<T: TakeLines, R: BufRead>(
     alloc: Global,
     counted: &mut Counted<'_, R>,

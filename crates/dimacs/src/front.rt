@@ -1,4 +1,4 @@
-//! The front of a line, kept while its end isn't read.
+//! The beginning of a line, kept until its end is read.
 ghost use Rattle.std.specs.Prelude.{◌≡◌, ◌+◌, ◌*◌, ◌<◌, ◌≤◌, ◌++◌, ◌∷◌, length, IfErr, OnOk, MatchBool, [], true};
 
 use crate::fault::Code;
@@ -10,14 +10,14 @@ use std::alloc::Global;
 /// More digits than a size of 64 bits has.
 const MOST_DIGITS: usize = 21;
 
-/// What is kept of the front of a line. All of it is looked at when it is twice as much as at the last look, and once more where the line
-/// ends, when it is dropped: so its bytes are looked at three times at most, taken together, with those that a look left out.
+/// The part of a line that is kept. All of it is examined when it is twice as much as at the last look, and once more when the line ends; then it is
+/// dropped. So its bytes, and those that a look left out, are examined at most three times.
 #[derive(Drop)]
 pub(crate) struct Front {
     bytes: Vec<u8>,
     /// How many bytes were kept at the last look.
     judged: usize,
-    /// How many bytes all looks saw, but for two looks at each byte that was left out.
+    /// How many bytes all looks saw, less two looks for each byte that was left out.
     looked: usize,
     ghost within: { judged ≤ length bytes.items },
     ghost linear: { looked ≤ 2 * judged },
@@ -51,7 +51,7 @@ impl Front {
         self.bytes.is_empty()
     }
 
-    /// Whether this byte alone is kept.
+    /// Whether only this byte is kept.
     pub(crate) fn is_byte(&self, byte: u8) -> bool
         ensures yes { result ≡ true → self.now.bytes.items ≡ byte ∷ [] }
         ensures no { self.now.bytes.items ≡ byte ∷ [] → result ≡ true }
@@ -91,7 +91,7 @@ impl Front {
         self.looked = 0;
     }
 
-    /// Whether what is kept is twice as much as at the last look. Then it counts as looked at.
+    /// Whether what is kept is twice as much as at the last look. If so, it counts as examined.
     pub(crate) fn is_due(&mut self) -> bool
         ensures kept { self.new.bytes.items ≡ self.old.bytes.items }
         ensures due { MatchBool result
@@ -109,8 +109,8 @@ impl Front {
         true
     }
 
-    /// Leaves digits out of a long numeral at the end, behind another field: zeros in front, and what follows 21 digits. It is part of a
-    /// look, and two looks at each byte that it leaves out are struck off.
+    /// Shortens a long numeral at the end, after another field: it drops zeros in front, and what follows 21 digits. This is part of a look, and each byte
+    /// that is dropped takes two looks off the count.
     pub(crate) fn shorten(&mut self)
         requires { self.old.judged ≡ length self.old.bytes.items }
         ensures same { (more : List ℕ) → SaySame (fields (strip_last 13 (self.old.bytes.items ++ more))) (fields (strip_last 13 (self.new.bytes.items ++ more))) }
@@ -135,7 +135,7 @@ impl Front {
         self.looked = self.looked.saturating_sub(2 * more);
     }
 
-    /// All that is kept, which counts as looked at.
+    /// All that is kept. It counts as examined.
     pub(crate) fn seen(&self) -> &[u8]
         requires { self.now.judged ≡ length self.now.bytes.items }
         ensures { result.now ≡ self.now.bytes.items }
@@ -143,7 +143,7 @@ impl Front {
         self.bytes.as_slice()
     }
 
-    /// Takes the line that begins with what is kept and ends with this piece, of which nothing is kept then.
+    /// Takes the line that begins with what is kept and ends with this piece. After it nothing is kept.
     pub(crate) fn take_whole<T: TakeLines>(
         &mut self,
         taker: &mut T,

@@ -17,7 +17,7 @@ use roadnet::Network;
 use std::alloc::Global;
 use std::io::BufRead;
 
-/// The network of the lines that were taken, or the fault of their end.
+/// The network of the lines that were taken, or the fault at their end.
 fn network_at_end(alloc: Global, ended: Ended<GrLines>) -> Result<Network, Fault>
     ensures reads_nothing { IfErr result (λ fault. fault.code ≢ Code.Read) }
     ensures bare { IfOk result (λ network. network.landmarks ≡ []) }
@@ -34,11 +34,11 @@ fn network_at_end(alloc: Global, ended: Ended<GrLines>) -> Result<Network, Fault
     }
 }
 
-/// The network that a `.gr` text gives, all its arcs open and no node a landmark, or the text's first fault. The count of failed calls tells
-/// a failed read from a fault of the text. After an `Err` the text is not used again.
+/// The network of a `.gr` text, with all arcs open and no landmark, or the text's first fault. The count of failed calls distinguishes a failed read from a
+/// fault of the text. After an `Err` the text is not used again.
 ///
-/// `examples/six.gr` gives six nodes and eight arcs. Without its last line it has the fault `LineCount` in line 9; the empty text has
-/// `NoProblemLine` in line 0.
+/// `examples/six.gr` gives six nodes and eight arcs. Without its last line it has the fault `LineCount` in line 9. The empty text has `NoProblemLine` in
+/// line 0.
 pub fn read_gr<S: Text>(alloc: Global, text: &mut S) -> Result<Network, Fault>
     ensures read { IfSome (S.bytes text.old) (λ bytes. Reads gr_text bytes (S.source text.new) result) }
     ensures bare { IfOk result (λ network. network.landmarks ≡ []) }
@@ -48,7 +48,7 @@ pub fn read_gr<S: Text>(alloc: Global, text: &mut S) -> Result<Network, Fault>
     network_at_end(alloc, ended)
 }
 
-/// The network that a `.gr` text in memory gives, as `read_gr`.
+/// The network of a `.gr` text in memory, as by `read_gr`.
 pub fn parse_gr(alloc: Global, bytes: &[u8]) -> Result<Network, Fault>
     ensures { Reads gr_text bytes.now InMemory result }
 {
@@ -56,8 +56,8 @@ pub fn parse_gr(alloc: Global, bytes: &[u8]) -> Result<Network, Fault>
     read_gr(alloc, &mut text)
 }
 
-/// The network that the lines before the first line `run` give, and whether there is such a line; the reader then has the
-/// bytes behind it left. Without one it is the network of the whole text. After an `Err` the reader is not used again.
+/// The network of the lines before the first line `run`, and whether there is such a line. If there is, the reader still has the bytes after it. If there
+/// is none, the network is that of the whole text. After an `Err` the reader is not used again.
 pub fn read_gr_before_run<R: BufRead>(
     alloc: Global,
     counted: &mut Counted<'_, R>,

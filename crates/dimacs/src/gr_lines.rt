@@ -16,7 +16,7 @@ use std::alloc::Global;
 pub(crate) struct GrLines {
     problem: Option<Problem>,
     arcs: Vec<RoadArc>,
-    // no arc stands before the problem line
+    // no arc comes before the problem line
     ghost none: { ForNone problem (length arcs.items ≡ 0) },
     // a network may have the announced nodes and the arcs so far
     ghost fits: { ForSome problem (λ p. Fits p arcs.items) },
@@ -62,7 +62,7 @@ impl GrLines {
         }
     }
 
-    /// Ends the text. Of what the lines gave a network can be made, and since no landmark is given, it wants no memory.
+    /// Ends the text. If the lines make a network, this takes no memory, since there is no landmark.
     pub(crate) fn finish(self, alloc: Global) -> Result<Network, Code>
         ensures reads_nothing { IfErr result (λ code. code ≢ Code.Read) }
         ensures bare { IfOk result (λ network. network.landmarks ≡ []) }

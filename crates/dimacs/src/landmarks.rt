@@ -27,7 +27,7 @@ fn node_of(nodes: u32, number: Numeral) -> Result<u32, Code>
     Ok(number.size as u32)
 }
 
-/// The node that the number of an item line names, or its fault.
+/// The node that the number of an item line names, or the fault.
 fn read_node(nodes: u32, numbers: &[u8]) -> Option<Result<u32, Code>>
     ensures reads_nothing { IfSome result (λ read. IfErr read (λ code. code ≢ Code.Read)) }
     ensures value { result ≡ node_read nodes (one_numeral (fields numbers.now)) }
@@ -76,7 +76,7 @@ ghost use Rattle.dimacs.specs.Counts.{CountsFailures};
 ghost use Rattle.dimacs.specs.Landmarks.{ss_text, AreNodes};
 ghost use Rattle.dimacs.specs.Texts.{InMemory, Reads, map_ok};
 
-/// The set of these nodes as an ascending list.
+/// These nodes as a set: an ascending list.
 fn as_set(nodes: Vec<u32>) -> Vec<u32>
     ensures set { result.items ≡ set_of nodes.items }
     ensures ascending { IsStrictlyIncreasing result.items }
@@ -87,9 +87,9 @@ fn as_set(nodes: Vec<u32>) -> Vec<u32>
     nodes
 }
 
-/// The landmarks that a `.ss` text gives for a network of `nodes` nodes, ascending and each once, or the text's first fault. The count of
-/// failed calls tells a failed read from a fault of the text. After an `Err` the text is not used again. It takes 4 bytes a line that was
-/// read, and O(K log K) comparisons.
+/// The landmarks of a `.ss` text for a network of `nodes` nodes, ascending and each once, or the text's first fault. The count of failed calls
+/// distinguishes a failed read from a fault of the text. After an `Err` the text is not used again. The call takes 4 bytes a line, and O(K log K)
+/// comparisons.
 ///
 /// With six nodes, and `/` for a line feed, `p aux sp ss 3 / s 6 / s 3 / s 6` gives 3 and 6; `p aux sp ss 3 / s 7` gives line 2, `NodeRange`.
 pub fn read_ss<S: Text>(alloc: Global, text: &mut S, nodes: u32) -> Result<Vec<u32>, Fault>
@@ -102,7 +102,7 @@ pub fn read_ss<S: Text>(alloc: Global, text: &mut S, nodes: u32) -> Result<Vec<u
     Ok(as_set(landmarks))
 }
 
-/// The landmarks that a `.ss` text in memory gives, as `read_ss`.
+/// The landmarks of a `.ss` text in memory, as by `read_ss`.
 pub fn parse_ss(alloc: Global, bytes: &[u8], nodes: u32) -> Result<Vec<u32>, Fault>
     ensures text { Reads (ss_text nodes) bytes.now InMemory (map_ok vec_items result) }
     ensures ascending { IfOk result (λ landmarks. IsStrictlyIncreasing landmarks.items) }

@@ -1,4 +1,4 @@
-//! The texts of the server: what they say, or the first fault in them.
+//! The texts of the server: what they say, or their first fault.
 #![tactic(auto)]
 
 mod commands;

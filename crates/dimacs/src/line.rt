@@ -30,14 +30,14 @@ fn first_blank(rest: &[u8]) -> Option<usize>
     rest.iter().position(|byte| is_blank(*byte))
 }
 
-/// How long the field is that begins here.
+/// The length of the field that begins here.
 fn field_len(rest: &[u8]) -> usize
     ensures { result ≡ position_or_len is_blank rest.now }
 {
     first_blank(rest).unwrap_or(rest.len())
 }
 
-/// The first field of the front of a line, and what follows it. Where nothing does, the field may go on behind the front.
+/// The first field in the beginning of a line, and what follows it. If nothing follows, the field may continue in the bytes to come.
 fn split_front(front: &[u8]) -> Option<(&[u8], &[u8])>
     ensures line { MatchOption result (fields front.now ≡ [])
         (λ found. fields front.now ≡ found.0.now ∷ fields found.1.now) }
@@ -49,7 +49,7 @@ fn split_front(front: &[u8]) -> Option<(&[u8], &[u8])>
     Some(rest.split_at(field_len(rest)))
 }
 
-/// The first field of a line, and what follows it: of ` set 8 4` the field `set` and the rest ` 8 4`; of a line of blanks nothing.
+/// The first field of a line, and what follows it. In ` set 8 4` they are `set` and ` 8 4`. A line of blanks has none.
 pub fn split_field(line: &[u8]) -> Option<(&[u8], &[u8])>
     ensures { MatchOption result (fields line.now ≡ [])
         (λ found. fields line.now ≡ found.0.now ∷ fields found.1.now) }
@@ -57,7 +57,7 @@ pub fn split_field(line: &[u8]) -> Option<(&[u8], &[u8])>
     split_front(line)
 }
 
-/// More bytes than a word of any text has, and more fields than a line of any text has.
+/// More bytes than any word of a text has, and more fields than any line of a text has.
 const MUCH: usize = 16;
 
 fn is_decimal(byte: u8) -> bool
@@ -72,7 +72,7 @@ pub(crate) fn are_decimal(digits: &[u8]) -> bool
     digits.iter().all(|byte| is_decimal(*byte))
 }
 
-/// Whether a byte is no digit, a minus in front apart: such a field is no numeral, however it goes on.
+/// Whether some byte, apart from a minus in front, is not a digit: such a field is no numeral, whatever follows.
 fn has_other_byte(field: &[u8]) -> bool
     ensures { result ≡ has_other_byte field.now }
 {
@@ -82,15 +82,15 @@ fn has_other_byte(field: &[u8]) -> bool
     }
 }
 
-/// Whether a line overflows with this field, which stands behind so many others.
+/// Whether a line overflows with this field, which comes after so many others.
 fn is_beyond(before: usize, field: &[u8]) -> bool
     ensures { result ≡ is_beyond before field.now }
 {
     before >= MUCH || (field.len() > MUCH && (before == 0 || has_other_byte(field)))
 }
 
-/// Whether each line that begins with these bytes overflows: it has more than 16 fields, a first field of more than 16 bytes, or a
-/// field of more than 16 bytes that is no numeral. A line of a text does so only where it is a comment or has a fault.
+/// Whether every line that begins with these bytes overflows: it has more than 16 fields, a first field of more than 16 bytes, or a field of more than 16
+/// bytes that is no numeral. Such a line of a text is a comment or has a fault.
 pub(crate) fn overflows(front: &[u8]) -> bool
     ensures { result ≡ true → Overflowing front.now }
 {
@@ -188,7 +188,7 @@ pub(crate) fn is_remark(line: &[u8], mark: u8) -> bool
     }
 }
 
-/// Whether the line has the one field `run`.
+/// Whether the line has only the field `run`.
 pub(crate) fn is_run(line: &[u8]) -> bool
     ensures { result ≡ is_run (fields line.now) }
 {
@@ -207,7 +207,7 @@ pub(crate) enum Kind<'a> {
     Unknown,
 }
 
-/// The kind of a line, in a format with this letter for its items.
+/// The kind of a line, in a format whose item lines begin with this letter.
 pub(crate) fn kind_of(line: &[u8], item: u8) -> Kind<'_>
     requires { (item ≢ 99) × (item ≢ 112) }
     ensures { IsKind item (fields line.now) result }

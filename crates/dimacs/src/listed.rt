@@ -27,7 +27,7 @@ use std::marker::{Brand, PhantomData};
 
 const MOST_ITEMS: u64 = 1 << 24;
 
-/// A number of nodes that is known beside a text, by which its lines are judged.
+/// The number of nodes, which is known apart from the text, and by which its lines are judged.
 pub(crate) trait NodeCount {
     ghost nodes: { ℕ };
 }
@@ -38,7 +38,7 @@ impl NodeCount for Brand {
 
 /// An item made of nodes.
 pub(crate) trait NodeItem: Copy {
-    // the kind word behind `aux sp`
+    // the kind word after `aux sp`
     ghost word: { List ℕ };
 
     // what the numbers of an item line name
@@ -53,12 +53,11 @@ pub(crate) trait NodeItem: Copy {
     /// The first field of an item line.
     const LETTER: u8;
 
-    /// Whether a field is the kind word behind `aux sp`.
+    /// Whether a field is the kind word after `aux sp`.
     fn is_word(field: &[u8]) -> bool
         ensures { result ≡ bytes_eq word field.now };
 
-    /// The item that the numbers of an item line say, or their fault. None where they are no numerals, or not as many as there
-    /// are to be.
+    /// The item that the numbers of an item line say, or their fault. Nothing if they are no numerals, or if there are too many or too few.
     fn read(nodes: u32, numbers: &[u8]) -> Option<Result<Self, Code>>
         ensures item { ReadsItem (listed word LETTER quantities nodes) says (fields numbers.now) result }
         ensures reads_nothing { IfSome result (λ read. IfErr read (λ code. code ≢ Code.Read)) };
@@ -76,7 +75,7 @@ pub(crate) trait NodeItem: Copy {
     ghost numbers_are_few: { nat_lt (length quantities) 12 ≡ true };
 }
 
-/// What follows the kind words `aux sp` and that of this item.
+/// What follows the kind words: `aux sp` and the word of this item.
 fn after_kind<I: NodeItem>(words: &[u8]) -> Option<&[u8]>
     ensures { MatchOption result (starts_with bytes_eq (fields words.now) (kind_words I.word) ≡ false)
         (λ counts. (starts_with bytes_eq (fields words.now) (kind_words I.word) ≡ true) × (drop 3 (fields words.now) ≡ fields counts.now)) }
@@ -106,7 +105,7 @@ fn announced(count: Numeral) -> Result<u32, Code>
     Ok(count.size as u32)
 }
 
-/// How many items a problem line announces, by the words after `p`.
+/// How many items a problem line announces, given the words after `p`.
 fn count<I: NodeItem>(has_problem: bool, words: &[u8]) -> Result<u32, Code>
     ensures reads_nothing { IfErr result (λ code. code ≢ Code.Read) }
     ensures value { result ≡ count_after I.word has_problem (fields words.now) }
@@ -219,7 +218,7 @@ impl<I: NodeItem, K: NodeCount> TakeLines for NodeLines<I, K> {
     ghost blank_is_no_comment = { refl };
 }
 
-/// The items of the lines that were taken, or the fault of their end.
+/// The items of the lines that were taken, or the fault at their end.
 fn items_at_end<I: NodeItem, K: NodeCount>(ended: Ended<NodeLines<I, K>>) -> Result<Vec<I>, Fault>
     ensures reads_nothing { IfErr result (λ fault. fault.code ≢ Code.Read) }
     ensures ends { (lines : List Row)
@@ -253,7 +252,7 @@ fn items_at_end<I: NodeItem, K: NodeCount>(ended: Ended<NodeLines<I, K>>) -> Res
     Ok(items)
 }
 
-/// The items of a text of a network with so many nodes, in the order of their lines, or the text's first fault.
+/// The items of a text for a network of so many nodes, in the order of their lines, or the text's first fault.
 pub(crate) fn read_items<I: NodeItem, K: NodeCount, S: Text>(
     alloc: Global,
     text: &mut S,

@@ -11,9 +11,9 @@ use crate::text::Text;
 use std::alloc::Global;
 use std::marker::Brand;
 
-/// The nodes that the lines of a `.ss` text name for a network of `nodes` nodes, in the order of the lines, each as often as it stands there, or the
-/// text's first fault. The count of failed calls tells a failed read from a fault of the text. After an `Err` the text is not used again. It takes 4
-/// bytes a line that was read.
+/// The nodes in the lines of a `.ss` text for a network of `nodes` nodes, in the order of the lines, each as often as it is listed, or the text's first
+/// fault. The count of failed calls distinguishes a failed read from a fault of the text. After an `Err` the text is not used again. The call takes 4 bytes
+/// a line.
 ///
 /// With six nodes, and `/` for a line feed, `p aux sp ss 3 / s 6 / s 3 / s 6` gives 6, 3 and 6.
 pub fn read_nodes<S: Text>(alloc: Global, text: &mut S, nodes: u32) -> Result<Vec<u32>, Fault>

@@ -5,7 +5,7 @@ ghost use Rattle.dimacs.specs.Digits.{kept_size};
 
 const MOST_READABLE: u64 = i64::MAX as u64;
 
-/// A numeral by its sign and its size. A size past 64 bits is kept as `u64::MAX`.
+/// A numeral by its sign and its size. A size that does not fit 64 bits is kept as `u64::MAX`.
 #[derive(Clone, Copy, Debug, PartialEq, Eq)]
 pub struct Numeral {
     pub has_minus: bool,
@@ -62,7 +62,7 @@ impl Numeral {
         !self.has_minus && self.size > most
     }
 
-    /// Whether the number is not from `least` to `most`.
+    /// Whether the number is not in `least` to `most`.
     pub fn is_outside(self, least: u64, most: u64) -> bool
         ensures { result ≡ is_outside least most self }
     {
@@ -70,7 +70,7 @@ impl Numeral {
     }
 }
 
-/// The number that digits write, up to `u64::MAX`.
+/// The number that these digits spell, up to `u64::MAX`.
 fn size_of(digits: &[u8]) -> Option<u64>
     ensures { result ≡ kept_size digits.now }
 {

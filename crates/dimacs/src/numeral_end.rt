@@ -1,4 +1,4 @@
-//! The numeral with which the front of a line ends.
+//! The numeral at the end of the beginning of a line.
 ghost use Rattle.std.specs.Prelude.{◌≡◌, ◌-◌, ◌<◌, ◌≤◌, ◌==◌, ℕ, IfSome, None, true, false, not, length, drop, slice_index, if◌then◌else◌};
 ghost use Rattle.std.specs.List.{position, position_or_len};
 ghost use Rattle.std.specs.Str.Parse.{starts_with_minus};
@@ -9,7 +9,7 @@ ghost use Rattle.dimacs.specs.NumeralEnds.{ends_in_numeral, EndsInDigits};
 use crate::commands;
 use crate::line::{are_decimal, is_blank};
 
-/// Where the last field of the front of a line begins: behind its last blank.
+/// Where the last field begins: after the last blank.
 fn last_field_start(front: &[u8]) -> usize
     ensures within { result ≤ length front.now }
     ensures field { (k : ℕ) → result ≤ k → k < length front.now → is_blank (slice_index front.now k) ≡ false }
@@ -37,7 +37,7 @@ fn are_digits(bytes: &[u8]) -> bool
     !bytes.is_empty() && are_decimal(bytes)
 }
 
-/// Where the digits of the numeral begin with which the front of a line ends, if it ends in one that stands behind another field.
+/// Where the digits of the last field begin, if that is a numeral and comes after another field.
 pub(crate) fn digits_at_end(front: &[u8]) -> Option<usize>
     ensures found { IfSome result (λ start. EndsInDigits front.now start) }
     ensures none { result ≡ None → ends_in_numeral front.now ≡ false }
@@ -59,7 +59,7 @@ fn first_other(digits: &[u8]) -> Option<usize>
     digits.iter().position(|byte| *byte != b'0')
 }
 
-/// How many zeros stand in front of the other digits.
+/// How many zeros there are before the other digits.
 pub(crate) fn zeros_in_front(digits: &[u8]) -> usize
     ensures { result ≡ position_or_len (λ b. not (b == 48)) digits.now }
 {

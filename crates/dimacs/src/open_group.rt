@@ -1,4 +1,4 @@
-//! The group that lines of a text are in.
+//! The group in which lines of a text are.
 ghost use Rattle.std.specs.Prelude.{◌≡◌, ◌++◌, [], ◌∷◌, true, false, None, Some, option_map, is_some, OnOk, OnErr, IfOk, IfErr};
 ghost use Rattle.roadnet.specs.Groups.{IsGroup};
 ghost use Rattle.dimacs.specs.OpenGroups.{is_full_group, IsUnended, IsNotAdded};
@@ -8,7 +8,7 @@ use roadnet::{Command, Group, MOST_OF_GROUP};
 use std::alloc::Global;
 use std::marker::Model;
 
-/// The commands of the group that is open, if one is. Contracts see it as their list. It takes 32 bytes a command.
+/// The commands of the group that is open, if one is. Contracts see it as the list of these. It takes 32 bytes a command.
 #[derive(Drop)]
 pub struct OpenGroup {
     alloc: Global,
@@ -45,7 +45,7 @@ impl OpenGroup {
         self.commands.is_some()
     }
 
-    /// Opens a group that has no command yet. Refused (`BadLine`) where one is open, which stays.
+    /// Opens a group without a command. It fails with `BadLine` if one is open, and that one stays open.
     pub fn begin(&mut self) -> Result<(), Code>
         ensures ok { OnOk result ((self.old ≡ None) × (self.new ≡ Some [])) }
         ensures refused { IfErr result (λ code. (code ≡ Code.BadLine) × (is_some self.old ≡ true)) }
@@ -58,8 +58,8 @@ impl OpenGroup {
         Ok(())
     }
 
-    /// Closes the group, and gives it. Refused is an end where none is open (`BadLine`), and a group without a command (`GroupSize`). None
-    /// is open then, whatever it answers.
+    /// Closes the group and returns it. It fails with `BadLine` if none is open, and with `GroupSize` if the group has no command. Whatever it returns, no
+    /// group is open afterwards.
     pub fn end(&mut self) -> Result<Group, Code>
         ensures ok { IfOk result (λ group. (self.old ≡ Some group) × IsGroup group) }
         ensures refused { IfErr result (IsUnended self.old) }
@@ -74,8 +74,8 @@ impl OpenGroup {
         }
     }
 
-    /// Adds a command to the group that is open. Refused is a 254th command (`GroupSize`), and want of memory (`OutOfMemory`); the group is
-    /// as it was then.
+    /// Adds a command to the open group. It fails with `GroupSize` for a 254th command, and with `OutOfMemory` for lack of memory. Then the group is as it
+    /// was.
     pub fn add(&mut self, command: Command) -> Result<(), Code>
         requires { is_some self.old ≡ true }
         ensures ok { OnOk result ((is_full_group self.old ≡ false) × (self.new ≡ option_map (λ commands. commands ++ command ∷ []) self.old)) }

@@ -10,7 +10,7 @@ use crate::text::Text;
 use std::alloc::Global;
 use std::marker::Brand;
 
-/// Two nodes of a network, counted from 1: from which to go, and to which.
+/// Two nodes of a network, counted from 1: the source and the target.
 #[derive(Clone, Copy, Debug, PartialEq, Eq)]
 pub struct Pair {
     pub source: u32,
@@ -90,12 +90,11 @@ ghost use Rattle.dimacs.specs.Counts.{CountsFailures};
 ghost use Rattle.dimacs.specs.Pairs.{p2p_text};
 ghost use Rattle.dimacs.specs.Texts.{InMemory, Reads, map_ok};
 
-/// The pairs that a `.p2p` text gives for a network of `nodes` nodes, in the order of their lines, or the text's first fault. The count of
-/// failed calls tells a failed read from a fault of the text. After an `Err` the text is not used again. It takes 8 bytes a pair that was
-/// read.
+/// The pairs of a `.p2p` text for a network of `nodes` nodes, in the order of their lines, or the text's first fault. The count of failed calls
+/// distinguishes a failed read from a fault of the text. After an `Err` the text is not used again. The call takes 8 bytes a pair.
 ///
-/// With six nodes, and `/` for a line feed, `p aux sp p2p 2 / q 1 6 / q 5 6` gives the pairs from 1 to 6 and from 5 to 6;
-/// `p aux sp p2p 1 / q 1 7` gives line 2, `NodeRange`, and `p aux sp p2p 2 / q 1 6` line 2, `LineCount`.
+/// With six nodes, and `/` for a line feed, `p aux sp p2p 2 / q 1 6 / q 5 6` gives the pairs from 1 to 6 and from 5 to 6. `p aux sp p2p 1 / q 1 7` gives
+/// line 2, `NodeRange`, and `p aux sp p2p 2 / q 1 6` gives line 2, `LineCount`.
 pub fn read_p2p<S: Text>(alloc: Global, text: &mut S, nodes: u32) -> Result<Vec<Pair>, Fault>
     ensures read { IfSome (S.bytes text.old) (λ bytes. Reads (p2p_text nodes) bytes (S.source text.new) (map_ok vec_items result)) }
     ensures counts { KeepsText CountsFailures S.Text result text.old text.new }
@@ -103,7 +102,7 @@ pub fn read_p2p<S: Text>(alloc: Global, text: &mut S, nodes: u32) -> Result<Vec<
     read_items::<Pair, Brand, S>(alloc, text, nodes)
 }
 
-/// The pairs that a `.p2p` text in memory gives, as `read_p2p`.
+/// The pairs of a `.p2p` text in memory, as by `read_p2p`.
 pub fn parse_p2p(alloc: Global, bytes: &[u8], nodes: u32) -> Result<Vec<Pair>, Fault>
     ensures { Reads (p2p_text nodes) bytes.now InMemory (map_ok vec_items result) }
 {

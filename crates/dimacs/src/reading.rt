@@ -55,7 +55,7 @@ pub(crate) fn split_three(numbers: &[u8]) -> Option<(Numeral, Numeral, Numeral)>
     }
 }
 
-/// The arc of an item line, after so many items.
+/// The arc of an item line that comes after so many items.
 pub(crate) fn item(problem: Option<Problem>, taken: usize, numbers: &[u8]) -> Result<RoadArc, Code>
     ensures reads_nothing { IfErr result (λ code. code ≢ Code.Read) }
     ensures value { result ≡ item_after problem taken (three_numerals (fields numbers.now)) }
@@ -111,7 +111,7 @@ pub(crate) fn other_kind<X>(has_problem: bool) -> Result<X, Code>
     }
 }
 
-/// What a problem line announces, by the words after `p`.
+/// What a problem line announces, given the words after `p`.
 pub(crate) fn problem(has_problem: bool, words: &[u8]) -> Result<Problem, Code>
     ensures reads_nothing { IfErr result (λ code. code ≢ Code.Read) }
     ensures value { result ≡ problem_after has_problem (fields words.now) }

@@ -11,22 +11,22 @@ use crate::taking::TakeLines;
 use std::alloc::Global;
 use std::io::BufRead;
 
-/// A text that is to be read: bytes in memory, or those of a reader whose failed calls are counted.
+/// A text to be read: bytes in memory, or those of a reader whose failed calls are counted.
 pub trait Text {
-    /// The bytes that are to be read, where somebody knows them.
+    /// The bytes to be read, if they are known.
     ghost bytes: { Self → Option (List ℕ) };
 
     /// Where they come from.
     ghost source: { Self → Source };
 
-    /// How many calls of their reader have failed; none of a text in memory.
+    /// How many calls of the reader have failed; 0 for a text in memory.
     ghost failures: { Self → ℕ };
 
-    /// The name by which their reader is known. It tells nothing of a text in memory.
+    /// The name of the reader. For a text in memory it says nothing.
     ghost reader: { Self → ℕ };
 
-    /// Gives the lines, one after another, to a value that has taken none yet, up to the first that has a fault. After an `Err` the text is
-    /// not used again.
+    /// Gives the lines, one after another and up to the first that has a fault, to a value that has taken none yet. After an `Err` the text is not used
+    /// again.
     fn give_lines<T: TakeLines>(&mut self, alloc: Global, taker: T) -> Result<Ended<T>, Fault>
         requires { T.has_taken [] taker }
         ensures read { IfSome (bytes self.old) (λ text. GivesLines T.judge T.has_taken text (source self.new) result) }

@@ -1,10 +1,10 @@
-//! The words of commands and of queries, with which lines of more than one kind of text begin.
+//! The words of commands and queries, with which lines of several kinds of text begin.
 ghost use Rattle.std.specs.Prelude.{◌≡◌};
 ghost use Rattle.dimacs.specs.Spelling.{spelled_word, one_spelling, one_words, one_command, two_spelling, two_words};
 
 use roadnet::Command;
 
-/// A word with one number behind it, each of a command.
+/// A word of a command that has one number after it.
 #[derive(Clone, Copy)]
 pub enum OneNumber {
     Close,
@@ -14,7 +14,7 @@ pub enum OneNumber {
 }
 
 impl OneNumber {
-    /// The command of this word with the number behind it, which is that of a node after `mark` and `unmark`, else of an arc.
+    /// The command of this word with the number after it: that of a node after `mark` and `unmark`, otherwise that of an arc.
     pub fn command(self, number: u64) -> Command
         ensures { result ≡ one_command self number }
     {
@@ -27,7 +27,7 @@ impl OneNumber {
     }
 }
 
-/// A word with two numbers behind it: `set` of a command, the others of queries.
+/// A word with two numbers after it. `set` is a command, the others are queries.
 #[derive(Clone, Copy)]
 pub enum TwoNumbers {
     Set,

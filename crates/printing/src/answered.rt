@@ -1,4 +1,4 @@
-//! The answer lines that name two nodes, each put together in a buffer, from its end: so a line goes out by one write.
+//! The answer lines that name two nodes. Each is put together in a buffer, from its end, so that a line is written by one call.
 ghost use Rattle.std.specs.Prelude.{◌≡◌, ◌+◌, ◌<◌, ◌≤◌, ◌∷◌, ◌++◌, length, drop, decimal};
 ghost use lib.Chars.{codes};
 ghost use Rattle.printing.specs.Printed.{with_nodes, answer_line};
@@ -6,10 +6,10 @@ ghost use Rattle.printing.specs.Printed.{with_nodes, answer_line};
 use itoa::write_digits;
 use rows::{Query, Reply};
 
-/// The room for a line. The longest has 65 bytes: a letter, three blanks with twenty digits behind each, and a line feed.
+/// The space for a line. The longest has 65 bytes: a letter, three times a blank with twenty digits after it, and a line feed.
 pub(crate) const LINE_ROOM: usize = 72;
 
-/// A byte before `end`, where the rest of the line begins. Gives where it stands.
+/// Puts a byte before `end`, where the rest of the line begins. Returns its place.
 fn put_byte(byte: u8, buf: &mut [u8], end: usize) -> usize
     requires { (0 < end) × (end ≤ length buf.old) }
     ensures start { result + 1 ≡ end }
@@ -19,7 +19,7 @@ fn put_byte(byte: u8, buf: &mut [u8], end: usize) -> usize
     end - 1
 }
 
-/// A blank and a number in decimal digits before `end`. Gives where the blank stands.
+/// Puts a blank and a number in decimal digits before `end`. Returns the place of the blank.
 #[tactic(auto, using(crate::proofs::AnsweredLines::twenty_digits))]
 fn put_spaced(number: u64, buf: &mut [u8], end: usize) -> usize
     requires { (21 ≤ end) × (end ≤ length buf.old) }
@@ -31,7 +31,7 @@ fn put_spaced(number: u64, buf: &mut [u8], end: usize) -> usize
     put_byte(b' ', buf, digits)
 }
 
-/// A letter and the two nodes of a query, with a blank before each, before `end`. Gives where the letter stands.
+/// Puts a letter and the two nodes of a query, with a blank before each, before `end`. Returns the place of the letter.
 fn put_nodes(letter: u8, query: &Query, buf: &mut [u8], end: usize) -> usize
     requires { (43 ≤ end) × (end ≤ length buf.old) }
     ensures start { result + length (with_nodes (letter ∷ codes " ") query.now) ≡ end }
@@ -42,7 +42,7 @@ fn put_nodes(letter: u8, query: &Query, buf: &mut [u8], end: usize) -> usize
     put_byte(letter, buf, first)
 }
 
-/// `d S T L` or `b S T L`, by its letter, at the end of the buffer. Gives where the line begins.
+/// Puts `d S T L` or `b S T L`, by its letter, at the end of the buffer. Returns where the line begins.
 pub(crate) fn length_line(
     letter: u8,
     query: &Query,
@@ -57,7 +57,7 @@ pub(crate) fn length_line(
     put_nodes(letter, query, line, nodes_end)
 }
 
-/// `x S T` at the end of the buffer. Gives where the line begins.
+/// Puts `x S T` at the end of the buffer. Returns where the line begins.
 pub(crate) fn no_walk_line(query: &Query, line: &mut [u8; LINE_ROOM]) -> usize
     ensures within { result ≤ 72 }
     ensures written { drop result line.new ≡ answer_line query.now Reply.NoWalk }

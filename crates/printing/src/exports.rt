@@ -20,11 +20,11 @@ pub enum Exported {
     Network,
     /// A `.ss` text: the landmarks.
     Landmarks,
-    /// A text of commands: it closes the closed arcs, a line each.
+    /// A text of commands that closes the closed arcs, one on each line.
     Closings,
 }
 
-/// Of which store a text is written, as its first line tells beside the network's room.
+/// The store of a text, for the text's first line, which also has the network's room.
 #[derive(Clone, Copy, Debug, PartialEq, Eq)]
 pub struct Origin {
     /// The store's version.
@@ -33,7 +33,7 @@ pub struct Origin {
     pub journal_pages: u32,
 }
 
-/// The line that tells of the store, behind the mark of a comment: `c roadmark version V room R journal J`.
+/// The line about the store, after the mark of a comment: `c roadmark version V room R journal J`.
 fn put_heading<W: Write>(
     out: &mut CountedWriter<'_, W>,
     mark: &[u8],
@@ -98,7 +98,7 @@ pub(crate) fn put_landmark_rows<W: Write>(
     Ok(())
 }
 
-/// `close K`, where the arc K is closed.
+/// `close K`, if the arc K is closed.
 fn put_closing<W: Write>(
     out: &mut CountedWriter<'_, W>,
     number: u64,
@@ -187,11 +187,11 @@ fn put_closings<W: Write>(
     put_closing_rows(out, network.arcs())
 }
 
-/// Writes one of the texts of a network, line by line: it takes no memory. Each text has a first line that tells of the store, `c roadmark version V
-/// room R journal J`, or the same behind `#` in the text of commands; it is a comment there.
+/// Writes one of the texts of a network, line by line. It takes no memory. The first line of each text describes the store, `c roadmark version V room R
+/// journal J`, or the same after `#` in the text of commands. It is a comment.
 ///
-/// Read by its grammar, the `.gr` text gives the network with each arc open, the `.ss` text its landmarks, and the text of commands closes just its
-/// closed arcs, each by a group of its own. A failed write is refused with 12; an unknown part is written then.
+/// Read by its grammar, the `.gr` text gives the network with each arc open, the `.ss` text gives its landmarks, and the text of commands closes exactly
+/// its closed arcs, each by a group of its own. A failed write is refused with 12; then an unknown part was written.
 pub fn put_exported<W: Write>(
     out: &mut CountedWriter<'_, W>,
     text: Exported,
@@ -208,7 +208,7 @@ pub fn put_exported<W: Write>(
     }
 }
 
-/// What holds of a network that is written out: with its arcs open, and its closed ones closed again, it is as it was.
+/// What holds of a network that is written as texts: with its arcs opened, and its closed ones closed again, it is as it was.
 pub fn laws_of_exports()
     ensures restored { ClosingRestores }
 {}

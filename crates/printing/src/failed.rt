@@ -1,4 +1,4 @@
-//! Why a call failed, and how the program says it.
+//! Why a call failed, and how the program reports it.
 ghost use Rattle.std.specs.Prelude.{◌≡◌, is_ok, if◌then◌else◌};
 ghost use Rattle.printing.specs.Failing.{told_of};
 
@@ -9,14 +9,14 @@ use std::fmt;
 /// Why a call failed.
 #[derive(Clone, Copy, Debug, PartialEq, Eq)]
 pub enum Failed {
-    /// A text has a fault. `which` is 0 for the call's first text and 1 for its second; in the joint form 0 is the network and 1 the
-    /// script, and in the program 2 is the store's file.
+    /// A text has a fault. `which` is 0 for the call's first text and 1 for its second. In the joint form 0 is the network and 1 the script. In the program
+    /// 2 is the store's file.
     Text { which: u8, fault: Fault },
     /// Any other refusal.
     Code(Refusal),
 }
 
-/// What reading a text gave, its fault told of the text with this number (`which` of `Failed::Text`).
+/// The result of reading a text. Its fault is reported for the text with this number (`which` of `Failed::Text`).
 pub fn of_text<T>(which: u8, read: Result<T, Fault>) -> Result<T, Failed>
     ensures { result ≡ told_of which read }
 {
@@ -26,7 +26,7 @@ pub fn of_text<T>(which: u8, read: Result<T, Fault>) -> Result<T, Failed>
     }
 }
 
-/// A name in a fault line: what is no printable text in it is told escaped, as `\n` or `\u{1b}`, and the rest as it is.
+/// A name in a fault line. What is not printable text in it is escaped, as `\n` or `\u{1b}`, and the rest stays as it is.
 #[derive(Clone, Copy)]
 struct ToldName<'a> {
     name: &'a str,
@@ -44,7 +44,7 @@ impl fmt::Display for ToldName<'_> {
     }
 }
 
-/// A fault line of the program, which it displays as `roadmark: FILE: line L: CODE Name` or `roadmark: CODE Name`.
+/// A fault line of the program, displayed as `roadmark: FILE: line L: CODE Name` or `roadmark: CODE Name`.
 #[derive(Clone, Copy, Debug)]
 pub struct FaultLine<'a> {
     pub failed: Failed,
@@ -61,7 +61,7 @@ impl fmt::Display for FaultLine<'_> {
     }
 }
 
-/// The fault line of a failure, for a text of this name. It takes no memory.
+/// The fault line of a failure, for a text with this name. It takes no memory.
 pub fn fault_line<'a>(failed: &Failed, name: &'a str) -> FaultLine<'a>
     ensures failed { result.failed ≡ failed.now }
     ensures name { result.name.now ≡ name.now }
@@ -72,7 +72,7 @@ pub fn fault_line<'a>(failed: &Failed, name: &'a str) -> FaultLine<'a>
     }
 }
 
-/// The exit status of the program: 0 where all is done, 1 after a fault.
+/// The exit status of the program: 0 if everything was done, 1 after a fault.
 pub fn status<T>(outcome: &Result<T, Failed>) -> u8
     ensures { result ≡ (if is_ok outcome.now then 0 else 1) }
 {

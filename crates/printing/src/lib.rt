@@ -1,5 +1,4 @@
-//! What the program prints: answer lines, the lines of a script's replies, fault lines and statuses, through a writer that counts its
-//! failed calls.
+//! What the program prints: answer lines, the lines of a script's replies, fault lines and statuses, through a writer that counts its failed calls.
 #![tactic(auto)]
 
 mod answered;

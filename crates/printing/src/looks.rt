@@ -1,4 +1,4 @@
-//! What an operator is told of a network, as bytes. No list is made: each number is written as the network is gone through.
+//! What an operator may ask about a network, as bytes. No list is made: each number is written during a pass over the network.
 ghost use Rattle.std.specs.Prelude.{◌≡◌, ◌++◌, [], decimal, length, if◌then◌else◌};
 ghost use lib.Chars.{codes};
 ghost use Rattle.printing.specs.Chosen.{arcs_where, closed_arcs, leads};
@@ -13,7 +13,7 @@ use crate::writer::CountedWriter;
 use roadnet::{Network, Refusal, RoadArc};
 use std::io::Write;
 
-/// What is asked of a network. Any numbers may stand in it.
+/// A question about a network. It may contain any numbers.
 #[derive(Clone, Copy, Debug, PartialEq, Eq)]
 pub enum Look {
     /// The arc of this number.
@@ -25,7 +25,7 @@ pub enum Look {
     Closed,
 }
 
-/// A word, and a number behind it.
+/// A word, and a number after it.
 pub(crate) fn put_part<W: Write>(
     out: &mut CountedWriter<'_, W>,
     word: &[u8],
@@ -84,7 +84,7 @@ fn leads(tail: u64, head: u64, arc: &RoadArc) -> bool
     u64::from(arc.tail) == tail && u64::from(arc.head) == head
 }
 
-/// A blank and the number, where the arc leads from the one node to the other.
+/// A blank and the number, if the arc leads from the one node to the other.
 fn put_where_it_leads<W: Write>(
     out: &mut CountedWriter<'_, W>,
     tail: u64,
@@ -175,12 +175,11 @@ fn put_closed_answer<W: Write>(
     put_closing_rows(out, network.arcs())
 }
 
-/// The answer to a look at a network: `a K T H W open` or `a K T H W closed`, of the arc K from node T to node H of length W,
-/// or `no 20` where there is none; `arcs T H K1 K2 ..`, the numbers of all arcs from T to H ascending, or `no 24` where one of the two is
-/// no node; `landmarks C` and C lines `s X`, its landmarks ascending; `closed C` and C lines `close K`, its closed arcs ascending. It takes no memory.
+/// The answer to a look at a network. For the arc K from node T to node H of length W it is `a K T H W open` or `a K T H W closed`, or `no 20` if there is
+/// no such arc. For the arcs from T to H it is `arcs T H K1 K2 ..`, with their numbers ascending, or `no 24` if T or H is not a node. For the landmarks it
+/// is `landmarks C` and C lines `s X`, ascending. For the closed arcs it is `closed C` and C lines `close K`, ascending. It takes no memory.
 ///
-/// Of `examples/six.gr`, the arc 7 is `a 7 5 2 0 open`, and those from node 4 to node 6 are `arcs 4 6 6`; from 6 to 1 there is none:
-/// `arcs 6 1`.
+/// In `examples/six.gr`, the arc 7 is `a 7 5 2 0 open`, and the arcs from node 4 to node 6 are `arcs 4 6 6`. From 6 to 1 there is none: `arcs 6 1`.
 fn put_look_answer<W: Write>(
     out: &mut CountedWriter<'_, W>,
     network: &Network,
@@ -196,7 +195,7 @@ fn put_look_answer<W: Write>(
     }
 }
 
-/// `v V` and the answer line to a look.
+/// `v V` and the answer to a look.
 pub fn put_look<W: Write>(
     out: &mut CountedWriter<'_, W>,
     network: &Network,

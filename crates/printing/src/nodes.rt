@@ -1,4 +1,4 @@
-//! The nodes near one, and the answers to pairs, as bytes.
+//! The nodes near a node, and the answers to pairs, as bytes.
 ghost use Rattle.std.specs.Prelude.{◌≡◌, length};
 ghost use Rattle.std.specs.List.{flat_map};
 ghost use Rattle.printing.specs.Writers.{Puts};
@@ -25,7 +25,7 @@ fn put_counted<W: Write>(
     put_numbered(out, b" ", count as u64)
 }
 
-/// `d S T L` of each of these nodes as a target.
+/// `d S T L` for each of these nodes as a target.
 fn put_from<W: Write>(
     out: &mut CountedWriter<'_, W>,
     source: u64,
@@ -44,7 +44,7 @@ fn put_from<W: Write>(
     Ok(())
 }
 
-/// `d S T L` of each of these nodes as a source.
+/// `d S T L` for each of these nodes as a source.
 fn put_to<W: Write>(
     out: &mut CountedWriter<'_, W>,
     target: u64,
@@ -99,7 +99,7 @@ pub fn put_nearest<W: Write>(
     put_from(out, source, told)
 }
 
-/// The answers to `Dist` of pairs of a source and a target, one line each, in their order.
+/// The answers to `Dist` for pairs of a source and a target, one line each, in their order.
 pub fn put_pairs<W: Write>(
     out: &mut CountedWriter<'_, W>,
     pairs: &[(u64, u64)],

@@ -20,7 +20,7 @@ pub fn put_number<W: Write>(out: &mut CountedWriter<'_, W>, number: u64) -> Resu
     out.write_all(buffer.format(number).as_bytes())
 }
 
-/// A word with a blank behind it, a number and a line feed.
+/// A word with a blank after it, a number and a line feed.
 pub fn put_numbered<W: Write>(
     out: &mut CountedWriter<'_, W>,
     word: &[u8],

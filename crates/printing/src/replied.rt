@@ -1,4 +1,4 @@
-//! What is told of a script's events, as bytes.
+//! The replies to a script's events, as bytes.
 ghost use Rattle.printing.specs.Writers.{Puts};
 ghost use Rattle.printing.specs.Replied.{printed_reply, printed_replies};
 

@@ -32,7 +32,7 @@ impl<'w, W: Write> CountedWriter<'w, W> {
         self.failed
     }
 
-    /// Writes these bytes and nothing else. The count goes up where the writer fails, and only there.
+    /// Writes these bytes and nothing else. The count goes up if the writer fails, and only then.
     pub fn write_all(&mut self, bytes: &[u8]) -> Result<(), Failed>
         ensures { Puts W.contents bytes.now result self.old self.new }
     {
@@ -45,7 +45,7 @@ impl<'w, W: Write> CountedWriter<'w, W> {
         }
     }
 
-    /// Sends out what was written. The count goes up where the writer fails, and only there.
+    /// Sends what was written. The count goes up if the writer fails, and only then.
     pub fn flush(&mut self) -> Result<(), Failed>
         ensures kept { Keeps (W.contents (writer_of self.old)) (W.contents (writer_of self.new)) }
         ensures fails { OnlyWriterFails result self.old self.new }

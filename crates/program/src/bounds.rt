@@ -1,4 +1,4 @@
-//! What the threads of a server stand on, in one word: whatever has the bounds.
+//! What the threads of a server are built on, as one trait: whatever has the bounds.
 
 use std::fs::File;
 use std::rt::Files;
@@ -6,7 +6,7 @@ use std::sync::Wait;
 use std::thread::Threads;
 use std::time::Clock;
 
-/// A runtime that a server's threads share: they wait for one another, rest, tell on standard error, and make files.
+/// A runtime that a server's threads share: they wait for one another, rest, report on standard error, and make files.
 pub trait ServerRuntime: AllocGlobal
     + Threads
     + Wait

@@ -1,4 +1,4 @@
-//! Copies of the network that is served, as stores in files of a folder.
+//! Copies of the served network, as stores in files of a folder.
 ghost use Rattle.std.specs.Prelude.{◌≡◌, ◌↔◌, IfOk, IfErr, OnOk, option_map, string_bytes};
 ghost use Rattle.sessions.specs.Copying.{IsUnmade};
 ghost use Rattle.program.specs.Copied.{IsCopyOf, copies_in};
@@ -22,7 +22,7 @@ use words::MOST_JOURNAL_PAGES;
 
 /// Makes a copy of the network at this version on an empty disk: a store with so many journal pages, 1 to 65,536.
 ///
-/// Refused is a disk that isn't empty (46), one that fails (43), and want of memory (11); a version above 2^48, which doesn't come (10).
+/// It is refused if the disk is not empty (46), if the disk fails (43), for lack of memory (11), and for a version above 2^48, which never occurs (10).
 pub fn copy_store<D: Disk>(
     alloc: Global,
     disk: D,
@@ -44,7 +44,7 @@ pub fn copy_store<D: Disk>(
     }
 }
 
-/// Why there is no file for a copy: it can't be opened or made (10), its name can't be made durable (43), or memory ran out (11).
+/// Why there is no file for a copy: it cannot be opened or made (10), its name cannot be made durable (43), or memory ran out (11).
 fn refusal_of(error: OpenError) -> Refusal
     ensures { IsUnmade result }
 {
@@ -65,7 +65,7 @@ fn path_of(alloc: Global, folder: &str, name: &[u8]) -> Result<String, AllocErro
     Ok(path)
 }
 
-/// The folder in which copies are made, if there is one, and of how many pages their journals are.
+/// The folder in which copies are made, if there is one, and the number of journal pages of the copies.
 #[derive(Drop)]
 pub struct FileCopies<T> {
     rt: T,
@@ -75,7 +75,7 @@ pub struct FileCopies<T> {
 }
 
 impl<T> FileCopies<T> {
-    /// Copies in this folder, if there is one, with as many journal pages as a store that was opened.
+    /// Copies in this folder, if there is one, with as many journal pages as the opened store has.
     pub fn new(rt: T, folder: Option<String>, journal_pages: u32) -> FileCopies<T>
         ensures { result.folder ≡ folder }
     {
@@ -98,8 +98,8 @@ impl<T: AllocGlobal + Files<File = File>> Copies for FileCopies<T> {
         self.folder.is_some()
     }
 
-    /// The file is made, locked and synced as that of `create`, but a link of its name is refused, so no copy leaves the folder. One that this call made and that holds no store in the end is removed,
-    /// while it is still locked; one that was there stays as it was, and one that was there and is empty is taken.
+    /// The file is made, locked and synced as that of `create`, but a link of its name is refused, so no copy leaves the folder. A file that this call made
+    /// and that holds no store in the end is removed while it is still locked. A file that was there before stays as it was; if it was empty, it is used.
     fn copy(
         &self,
         alloc: Global,
@@ -127,7 +127,8 @@ impl<T: AllocGlobal + Files<File = File>> Copies for FileCopies<T> {
     }
 }
 
-/// The folder of copies, if one is named: it is there. One that is not is told as a text that can't be opened (10 of line 0), by number 1, and it is told why.
+/// The folder of copies, if one is named: it must exist. If it does not, it is reported as text number 1 that cannot be opened (10 of line 0), with the
+/// reason.
 pub fn see_folder<R: AllocGlobal + Clock + Eprint + Files<File = File>>(
     rt: &R,
     progress: &Progress<'_, R>,

@@ -1,4 +1,4 @@
-//! The doors of a server: pairs of named pipes, by each of which clients come one after the other.
+//! The doors of a server: pairs of named pipes, through each of which clients come one after the other.
 ghost use Rattle.std.specs.Prelude.{◌≡◌, ◌≤◌, ℕ, Bool, List, length, vec_len, true, false, Ok, IfOk, IfErr, OnOk, ⊤};
 ghost use Rattle.program.specs.Failures.{IsOfNoPipe};
 ghost use Rattle.words.specs.Pipes.{names_of, AreTold};
@@ -22,22 +22,22 @@ use std::time::{Clock, Duration};
 use thiserror::Error;
 use words::{PipePair, pipe_at};
 
-/// The bytes of a client that are read or written at once: it reads the first of its answers while what follows is made.
+/// How many bytes of a client are read or written at once: it reads the first of its answers while the rest is made.
 const BUFFER: usize = 1 << 12;
 
-/// For how many milliseconds a door is let be that finds no memory for a client.
+/// For how many milliseconds a door rests that finds no memory for a client.
 const REST: u64 = 100;
 
-/// Doors, and whether clients may come in by them: not before each has its thread.
+/// Doors, and whether clients may come in through them: not before each has its thread.
 #[derive(Drop)]
 pub struct Doors<C> {
     pub doors: Vec<C>,
     pub are_open: Arc<Mutex<bool>>,
-    /// Those who come in.
+    /// The clients that come in.
     pub guests: Guests,
 }
 
-/// The pipe into which a client's answers go. It knows whether the client has closed its end.
+/// The pipe for a client's answers. It knows whether the client has closed its end.
 #[derive(Drop)]
 pub struct AnswerPipe {
     file: File,
@@ -60,7 +60,7 @@ impl Write for AnswerPipe {
     }
 }
 
-/// Tells on standard error why a session by a pipe ended, or why no more come by it: `roadmark: NAME: CODE Name`, or a reason in its place.
+/// Reports on standard error why a session on a pipe ended, or why no more clients come through it: `roadmark: NAME: CODE Name`, or a reason in its place.
 fn tell<R: Eprint, D: Display>(rt: &R, name: &str, what: &D) {
     let name = ToldName { name };
     let _ = eprintln!(rt; "roadmark: {name}: {what}");
@@ -91,10 +91,10 @@ enum Side {
 /// Why a pipe is not served.
 #[derive(Clone, Copy, Debug, PartialEq, Eq, Error)]
 enum Why {
-    /// The system doesn't open it any more.
+    /// The system no longer opens it.
     #[error("{0}")]
     Unopened(OpenError),
-    /// What was opened is something else.
+    /// What was opened is not a pipe.
     #[error("it is no named pipe")]
     NoPipe,
     /// There is no memory for a client.
@@ -102,14 +102,14 @@ enum Why {
     NoMemory,
 }
 
-/// Why a client could not come in, and by which pipe.
+/// Why a client could not come in, and because of which pipe.
 #[derive(Clone, Copy)]
 struct Unserved {
     side: Side,
     why: Why,
 }
 
-/// Why a pipe is not served at whose opening the system failed so.
+/// Why a pipe is not served, given the system's error when opening it.
 fn why_unserved(error: &io::Error) -> Why
     ensures { result ≡ Why.NoPipe → ⊥ }
 {
@@ -119,16 +119,16 @@ fn why_unserved(error: &io::Error) -> Why
     }
 }
 
-/// An open file, which tells of itself whether it is a named pipe.
+/// An open file that says whether it is a named pipe.
 pub trait TellsPipe {
-    /// What it may tell.
+    /// What it may say.
     ghost tells: { Self → Bool → Type 0 };
 
     fn is_pipe(&self) -> bool
         ensures { Self.tells self.now result };
 }
 
-/// A file of the system, which may tell anything.
+/// A file of the system, which may say anything.
 impl TellsPipe for File {
     ghost tells = { λ file is. ⊤ };
 
@@ -140,7 +140,7 @@ impl TellsPipe for File {
     }
 }
 
-/// What was opened as a pipe of a pair, where it tells itself that it is a named pipe: by now its name may be that of anything.
+/// What was opened as a pipe of a pair, if it says itself that it is a named pipe: by now its name may belong to anything.
 fn pipe_of<F: TellsPipe + Drop>(side: Side, opened: io::Result<F>) -> Result<F, Unserved>
     ensures pipe { IfOk result (λ pipe. (opened ≡ Ok pipe) × F.tells pipe true) }
     ensures none { IfErr result (λ unserved. unserved.why ≡ Why.NoPipe → (file : _) × (opened ≡ Ok file) × F.tells file false) }
@@ -163,7 +163,7 @@ fn pipe_of<F: TellsPipe + Drop>(side: Side, opened: io::Result<F>) -> Result<F, 
     Ok(file)
 }
 
-/// A client at two open pipes, if there is memory for it.
+/// A client with two open pipes, if there is memory for it.
 fn client_of(alloc: Global, input: File, output: File) -> io::Result<Client> {
     let reader = BufReader::with_capacity(alloc, BUFFER, input)?;
     let pipe = AnswerPipe {
@@ -175,7 +175,7 @@ fn client_of(alloc: Global, input: File, output: File) -> io::Result<Client> {
 }
 
 impl<T: Files<File = File>> PipeDoor<T> {
-    /// Opens the pipe that is written, beside the one that is read. It waits until a client has opened it. Nothing is made or written by that.
+    /// Opens the pipe for writing, while the one for reading is open. It waits until a client has opened the pipe. This makes and writes nothing.
     fn open_beside(&self, input: File) -> Result<Client, Unserved> {
         let opened = OpenOptions::new()
             .write(true)
@@ -190,7 +190,7 @@ impl<T: Files<File = File>> PipeDoor<T> {
         }
     }
 
-    /// Opens the pipe that is read, and then the one that is written. It waits until a client has opened both.
+    /// Opens the pipe for reading, and then the one for writing. It waits until a client has opened both.
     fn open(&self) -> Result<Client, Unserved> {
         let opened = fs::open(&self.rt, self.input.as_str());
         let input = pipe_of(Side::Input, opened)?;
@@ -204,7 +204,7 @@ impl<T: Eprint + Clock + Wait> PipeDoor<T> {
         *self.are_open.lock(&self.rt)
     }
 
-    /// Tells why no client could come in, and whether the next one may: behind a rest, where memory was wanting.
+    /// Reports why no client could come in, and returns whether the next one may: after a rest, if there was no memory.
     fn goes_on(&self, unserved: Unserved) -> bool {
         let name = match unserved.side {
             Side::Input => self.input.as_str(),
@@ -227,7 +227,8 @@ impl<T: Files<File = File> + Eprint + Clock + Wait> Door<BufReader<File>, BufWri
         self.asks_alone
     }
 
-    /// The next client. Where a pipe can't be opened any more, or is none, this is told, and no more come; where memory is wanting the client finds its pipes closed.
+    /// The next client. If a pipe can no longer be opened, or is not a pipe, this is reported, and no more clients come. If there is no memory, the client
+    /// finds its pipes closed.
     fn next(&mut self) -> Option<Client> {
         if !self.is_open() {
             return None;
@@ -248,8 +249,8 @@ impl<T: Files<File = File> + Eprint + Clock + Wait> Door<BufReader<File>, BufWri
         None
     }
 
-    /// Closes both pipes, the one that is read first: so who sees the other one closed finds no line of this client in it. That a read or a write failed is told, but
-    /// not where the client left before its last answer.
+    /// Closes both pipes, first the one for reading: so whoever sees the other one closed finds no line of this client in it. A failed read or write is
+    /// reported, unless the client left before its last answer.
     fn ended(
         &mut self,
         reader: BufReader<File>,
@@ -272,16 +273,16 @@ impl<T: Files<File = File> + Eprint + Clock + Wait> Door<BufReader<File>, BufWri
     }
 }
 
-/// What tells whether a name is one of a named pipe.
+/// A value that says whether a name is that of a named pipe.
 pub trait TellsPipes {
-    /// What it may tell of a name.
+    /// What it may say of a name.
     ghost tells: { Self → List ℕ → Bool → Type 0 };
 
     fn is_pipe(&self, name: &str) -> bool
         ensures { Self.tells self.now name.now result };
 }
 
-/// The files of a runtime, of whose names it may tell anything.
+/// The files of a runtime, which may say anything of their names.
 #[derive(Clone, Copy)]
 pub struct FileNames<'a, R> {
     pub rt: &'a R,
@@ -298,14 +299,14 @@ impl<R: Files> TellsPipes for FileNames<'_, R> {
     }
 }
 
-/// Pairs of which each name was told to be one of a named pipe.
+/// Pairs whose names were all said to be those of named pipes.
 #[derive(Clone, Copy)]
 pub struct SeenPipes<'a, 'w> {
     pairs: &'a [PipePair<'w>],
 }
 
-/// Sees to it that each name is that of a named pipe. The first that is not is told as a file that can't be opened (10 of line 0), by its number: 3 for the first
-/// pipe, 4 for the next one.
+/// Checks that each name is that of a named pipe. The first that is not is reported as a file that cannot be opened (10 of line 0), with its number: 3 for
+/// the first pipe, 4 for the next one.
 pub fn see_pipes<'a, 'w, P: TellsPipes>(
     told: &P,
     pipes: &'a [PipePair<'w>],
@@ -325,7 +326,7 @@ pub fn see_pipes<'a, 'w, P: TellsPipes>(
     Ok(SeenPipes { pairs: pipes })
 }
 
-/// The names of a pair's pipes: of the one that is read, and of the one that is written.
+/// The names of a pair's pipes: the one for reading, and the one for writing.
 fn names_in(alloc: Global, pair: &PipePair<'_>) -> Result<(String, String), AllocError> {
     let input = String::from_str(alloc, pair.input)?;
     let output = String::from_str(alloc, pair.output)?;
@@ -372,7 +373,7 @@ fn all_doors<T: Copy + Drop>(
     Ok(doors)
 }
 
-/// The doors of these pairs, which are closed yet. Where it is told who comes in, it is told how the whole server stands.
+/// The doors of these pairs, still closed. If there are reports of who comes in, there are reports on the whole server.
 pub fn doors_of<T: Copy + Drop>(
     rt: T,
     alloc: Global,

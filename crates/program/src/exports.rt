@@ -1,4 +1,4 @@
-//! The files in which a store's network is written out.
+//! The files of a store's network, written as texts.
 ghost use Rattle.std.specs.Prelude.{◌≡◌, IfOk, IfErr};
 ghost use Rattle.program.specs.Failures.{unopened, IsTextUnmade, IsTextUnwritten};
 ghost use Rattle.printing.specs.declared.exports.Exported.TheVariants.{Network, Landmarks, Closings};
@@ -19,10 +19,10 @@ use std::time::Clock;
 use store::Store;
 use storetexts::export_text;
 
-/// By what number a failure names the folder of the texts.
+/// The number with which a failure names the folder of the texts.
 const FOLDER: u8 = 1;
 
-/// Read and written by its owner and group, and read by all.
+/// Its owner and group may read and write it, and all may read it.
 const MODE: u32 = 0o664;
 
 /// The name of a text's file in its folder.
@@ -34,8 +34,8 @@ fn name_of(text: Exported) -> &'static str {
     }
 }
 
-/// A folder that is there, opened to be synced. What is no folder is not opened at all: opening a pipe to read it waits for a writer. It is
-/// refused as fault 10 of line 0.
+/// An existing folder, opened to be synced. What is not a folder is not opened at all: opening a pipe to read it waits for a writer. It is refused as fault
+/// 10 of line 0.
 pub fn open_folder<R: Clock + Eprint + Files<File = File>>(
     rt: &R,
     progress: &Progress<'_, R>,
@@ -57,7 +57,7 @@ pub fn open_folder<R: Clock + Eprint + Files<File = File>>(
     }
 }
 
-/// What is told of a folder, or of a new file in it, that the system doesn't open; and it is told why.
+/// The failure for a folder, or for a new file in it, that the system does not open. The reason is reported.
 fn unopened_folder<R: Eprint>(progress: &Progress<'_, R>, name: &str, error: &io::Error) -> Failed
     ensures { result ≡ unopened 1 }
 {
@@ -72,7 +72,7 @@ fn path_of(alloc: Global, folder: &str, text: Exported) -> Result<PathBuf, Alloc
     Ok(path)
 }
 
-/// What is told of a text's file that is not made: there is one already (46), or the folder takes none (fault 10 of line 0); and it is told why.
+/// The failure for a text's file that is not made: there is one already (46), or the folder accepts none (fault 10 of line 0). The reason is reported.
 fn unmade<R: Eprint>(progress: &Progress<'_, R>, name: &str, error: &io::Error) -> Failed
     ensures { IsTextUnmade result }
 {
@@ -92,7 +92,7 @@ fn make_file<R: Files<File = File>>(rt: &R, path: &PathBuf) -> io::Result<File> 
     options.open(rt, path.as_path())
 }
 
-/// The file of a text, which was made for it: its name is that of this text, and this text is written into it.
+/// The file of a text, which was made for it: it has the name of this text, and this text is written into it.
 #[derive(Drop)]
 struct TextFile {
     path: PathBuf,
@@ -101,8 +101,8 @@ struct TextFile {
 }
 
 impl TextFile {
-    /// Makes the file of a text, which is empty. Refused is one that is there already (46), a folder that takes none (fault 10 of line 0),
-    /// and want of memory for its name (11).
+    /// Makes the file of a text, which is empty. It is refused if the file exists (46), if the folder accepts none (fault 10 of line 0), and for lack of
+    /// memory for its name (11).
     fn make<R: AllocGlobal + Eprint + Files<File = File>>(
         rt: &R,
         progress: &Progress<'_, R>,
@@ -121,7 +121,7 @@ impl TextFile {
         }
     }
 
-    /// Makes the file of a text behind these, which are removed where it is not made.
+    /// Makes the file of a text after these, and removes these if that fails.
     fn make_behind<R: AllocGlobal + Eprint + Files<File = File>>(
         rt: &R,
         progress: &Progress<'_, R>,
@@ -158,7 +158,8 @@ impl TextFile {
         }
     }
 
-    /// Writes the text of a store's network into the file, which is synced. What fails is told as 43: 12 tells that all is done, and only its line is not told.
+    /// Writes the text of a store's network into the file, and syncs it. A failure is reported as 43: 12 means that everything is done, and only its line
+    /// is not written.
     fn fill<R: Clock + Eprint, D: Disk>(
         &self,
         alloc: Global,
@@ -222,7 +223,7 @@ impl TextFiles {
         })
     }
 
-    /// Writes the texts of a store's network into them, each its own. Each is synced, and then their folder.
+    /// Writes the texts of a store's network into them, each its own. Syncs each file, and then their folder.
     fn fill<R: Clock + Eprint, D: Disk>(
         &self,
         alloc: Global,
@@ -249,8 +250,8 @@ impl TextFiles {
     }
 }
 
-/// Writes the network of a store out as three texts in a folder that is there. Where one of the texts is there already nothing is made (46). Each text is
-/// synced, and then the folder; where one of these fails (43) those that were made are removed.
+/// Writes the network of a store as three texts in an existing folder. If one of the texts is there already, nothing is made (46). Each text is synced, and
+/// then the folder. If one of these steps fails (43), the files that were made are removed.
 pub fn write_texts<R: AllocGlobal + Clock + Eprint + Files<File = File>, D: Disk>(
     rt: &R,
     progress: &Progress<'_, R>,

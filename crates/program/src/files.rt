@@ -18,22 +18,22 @@ use std::rt::Files;
 use std::time::Clock;
 use words::is_input;
 
-/// The bytes that are read or written at once.
+/// How many bytes are read or written at once.
 const BUFFER: usize = 1 << 16;
 
-/// The bytes of answers that are written at once: who waits for them reads the first while what follows is made.
+/// How many bytes of answers are written at once: whoever waits for them reads the first while the rest is made.
 const PIECE: usize = 1 << 12;
 
-/// By what number a failure names the store's file; the texts are 0 and 1.
+/// The number with which a failure names the store's file. The texts are 0 and 1.
 pub const STORE: u8 = 2;
 
-/// By what number a failure names the file of the store of which another is made, where that takes no texts.
+/// The number with which a failure names the file of the store from which another is made, if that needs no texts.
 pub const OLD: u8 = 0;
 
-/// By what number a failure names the file of the store of which another is made by texts: the one behind the new store's.
+/// The number with which a failure names the file of the store from which another is made with texts: the one after the new store's.
 pub const BASE: u8 = 3;
 
-/// By what number a failure names the first pipe of a session; those behind it are 4 and on.
+/// The number with which a failure names the first pipe of a session. The next ones follow.
 pub const FIRST_PIPE: u8 = 3;
 
 /// A reader of larger pieces.
@@ -73,7 +73,7 @@ pub fn buffered_writer<W: Write + Drop>(alloc: Global, writer: W) -> Result<BufW
     writer_of(alloc, BUFFER, writer)
 }
 
-/// The standard input, which is waited for.
+/// The standard input, whose calls wait.
 pub fn standard_input<R: AllocGlobal + Clock + Input>(
     rt: &R,
 ) -> Result<BufReader<Patient<'_, R, R::Reader>>, Failed>
@@ -82,7 +82,7 @@ pub fn standard_input<R: AllocGlobal + Clock + Input>(
     buffered(rt.alloc(), Patient::new(rt, rt.reader()))
 }
 
-/// The standard output for answers, which is waited for.
+/// The standard output for answers, whose calls wait.
 pub fn standard_output<R: AllocGlobal + Clock + Print>(
     rt: &R,
 ) -> Result<BufWriter<Patient<'_, R, Printer<'_, R>>>, Failed>
@@ -91,10 +91,10 @@ pub fn standard_output<R: AllocGlobal + Clock + Print>(
     writer_of(rt.alloc(), PIECE, Patient::new(rt, io::writer(rt)))
 }
 
-/// By what name it is told of the standard output.
+/// The name of the standard output in reports.
 const OUTPUT: &str = "standard output";
 
-/// The standard output, which is waited for, and of which it is told how many lines were written.
+/// The standard output, whose calls wait, with reports of how many lines were written.
 pub type ToldOutput<'a, R> = BufWriter<TellingWriter<'a, R, Patient<'a, R, Printer<'a, R>>>>;
 
 /// The standard output for many lines.
@@ -108,7 +108,7 @@ pub fn told_output<'a, R: AllocGlobal + Clock + Eprint + Print>(
     buffered_writer(rt.alloc(), TellingWriter::new(progress, OUTPUT, output))
 }
 
-/// What is told of a file that can't be opened: fault 10 of line 0.
+/// The failure for a file that cannot be opened: fault 10 of line 0.
 pub fn unopened(which: u8) -> Failed
     ensures { result ≡ unopened which }
 {
@@ -124,7 +124,7 @@ pub fn unopened(which: u8) -> Failed
 pub enum Source<'a, R, F, S> {
     /// A file.
     File(F),
-    /// The standard input, which is waited for.
+    /// The standard input, whose calls wait.
     Input(Patient<'a, R, S>),
 }
 
@@ -137,7 +137,7 @@ impl<R: Clock, F: Read, S: Read> Read for Source<'_, R, F, S> {
     }
 }
 
-/// A text's file, or the standard input, of which it is told how far it was read.
+/// A text's file, or the standard input, with reports of how far it was read.
 type TextSource<'a, R> = TellingReader<
     'a,
     R,
@@ -147,7 +147,7 @@ type TextSource<'a, R> = TellingReader<
 /// A reader of a text's file, or of the standard input.
 pub type TextReader<'a, R> = BufReader<TextSource<'a, R>>;
 
-/// How long a file is, where it is one.
+/// The length of a file, if it is a regular one.
 fn length_of<F: OpenFile>(file: &F) -> Option<u64> {
     match file.metadata() {
         Ok(metadata) if metadata.is_file() => Some(metadata.len()),
@@ -155,8 +155,8 @@ fn length_of<F: OpenFile>(file: &F) -> Option<u64> {
     }
 }
 
-/// The file of a call's text `which`, or the standard input where `-` is written in its place. A file that can't be opened is fault 10 of line 0, and it is
-/// told why.
+/// The file of a call's text `which`, or the standard input if `-` is given in its place. A file that cannot be opened is fault 10 of line 0, and the
+/// reason is reported.
 pub fn open_text<'a, R: AllocGlobal + Clock + Eprint + Files + Input>(
     rt: &'a R,
     progress: &'a Progress<'a, R>,
@@ -185,7 +185,7 @@ pub fn open_text<'a, R: AllocGlobal + Clock + Eprint + Files + Input>(
     }
 }
 
-/// The first fault of a network, or else that the text behind it can't be opened.
+/// The first fault of a network, or otherwise that the next text cannot be opened.
 fn fault_of_network<I: BufRead + Drop>(alloc: Global, mut gr: I, failed: Failed) -> Failed
     ensures { (is_of_first result ≡ true) ⊎ (result ≡ failed) }
 {
@@ -195,7 +195,7 @@ fn fault_of_network<I: BufRead + Drop>(alloc: Global, mut gr: I, failed: Failed)
     }
 }
 
-/// The files of a network and of the text that follows it. Where the second can't be opened, a fault of the network is still told first.
+/// The files of a network and of the text that follows it. If the second cannot be opened, a fault of the network is still reported first.
 pub fn open_texts<'a, R: AllocGlobal + Clock + Eprint + Files + Input>(
     rt: &'a R,
     progress: &'a Progress<'a, R>,
@@ -211,7 +211,7 @@ pub fn open_texts<'a, R: AllocGlobal + Clock + Eprint + Files + Input>(
     }
 }
 
-/// The first fault of the network and of the text of sources that follows it, or else that a third text can't be opened.
+/// The first fault of the network and of the text of sources that follows it, or otherwise that a third text cannot be opened.
 fn fault_before<I: BufRead + Drop, J: BufRead + Drop>(
     alloc: Global,
     mut gr: I,
@@ -227,7 +227,7 @@ fn fault_before<I: BufRead + Drop, J: BufRead + Drop>(
     fault_of_sources(alloc, network.nodes(), 1, &mut sources, failed)
 }
 
-/// The first fault of the text `which`, of sources, or else that the text behind it can't be opened.
+/// The first fault of the text `which`, of sources, or otherwise that the next text cannot be opened.
 pub fn fault_of_sources<Q: BufRead>(
     alloc: Global,
     nodes: u32,
@@ -247,8 +247,8 @@ pub fn fault_of_sources<Q: BufRead>(
 /// The files of a network, and of the sources and the targets of a table.
 type TableReaders<'a, R> = (TextReader<'a, R>, TextReader<'a, R>, TextReader<'a, R>);
 
-/// The files of a network, and of the sources and the targets of a table. Where one of the last two can't be opened, a fault of a text before it is
-/// still told first.
+/// The files of a network, and of the sources and the targets of a table. If one of the last two cannot be opened, a fault of a text before it is still
+/// reported first.
 pub fn open_table<'a, R: AllocGlobal + Clock + Eprint + Files + Input>(
     rt: &'a R,
     progress: &'a Progress<'a, R>,
@@ -265,10 +265,10 @@ pub fn open_table<'a, R: AllocGlobal + Clock + Eprint + Files + Input>(
     }
 }
 
-/// A store's file, of which it is told how far it was read and written.
+/// A store's file, with reports of how far it was read and written.
 pub type StoreDisk<'a, R> = TellingDisk<'a, R, FileDisk<SystemFile>>;
 
-/// The file of a store that was opened, or fault 10 of line 0 of text `which`, and it is told why.
+/// The file of a store that was opened, or fault 10 of line 0 of text `which`. The reason is reported.
 fn opened<'a, R: Clock + Eprint>(
     progress: &'a Progress<'a, R>,
     which: u8,
@@ -286,7 +286,7 @@ fn opened<'a, R: Clock + Eprint>(
     }
 }
 
-/// The file of a store that is changed. One that can't be opened to be read and written, is no file, or is in use is fault 10 of line 0.
+/// The file of a store that is changed. If it cannot be opened to read and write it, is not a regular file, or is in use, that is fault 10 of line 0.
 pub fn open_store<'a, R: Clock + Eprint + Files<File = File>>(
     rt: &R,
     progress: &'a Progress<'a, R>,
@@ -297,7 +297,7 @@ pub fn open_store<'a, R: Clock + Eprint + Files<File = File>>(
     opened(progress, STORE, name, open_file(rt, name))
 }
 
-/// The file of a store that is served, as `open_store` opens it. Of its disk nothing is told.
+/// The file of a store that is served, as `open_store` opens it. There are no reports on its disk.
 pub fn open_served_store<R: Clock + Eprint + Files<File = File>>(
     rt: &R,
     progress: &Progress<'_, R>,
@@ -314,7 +314,8 @@ pub fn open_served_store<R: Clock + Eprint + Files<File = File>>(
     }
 }
 
-/// The file of a store that is read. One that can't be opened to be read, is no file, or is being changed is fault 10 of line 0 of text `which`.
+/// The file of a store that is read. If it cannot be opened to read it, is not a regular file, or is being changed, that is fault 10 of line 0 of text
+/// `which`.
 pub fn open_store_to_read<'a, R: Clock + Eprint + Files<File = File>>(
     rt: &R,
     progress: &'a Progress<'a, R>,
@@ -326,7 +327,7 @@ pub fn open_store_to_read<'a, R: Clock + Eprint + Files<File = File>>(
     opened(progress, which, name, open_to_read(rt, name))
 }
 
-/// What is told of a new store's file that is not there.
+/// The failure for a new store's file that does not exist.
 fn unmade(error: OpenError) -> Failed
     ensures { IsFileUnmade result }
 {
@@ -340,9 +341,9 @@ fn unmade(error: OpenError) -> Failed
 /// The file for a new store, and the file that was made for it, if there was none.
 pub type NewDisk<'a, R> = (StoreDisk<'a, R>, Option<MadeFile>);
 
-/// The file for a new store, which is made where there is none. It is refused as by `open_store`, with 43 where its name is not made
-/// durable, and with 11 where there is no memory for the name; after a refusal no file is there that was not there before, but where its
-/// lock is refused: then an empty file may stay, which `create` takes again.
+/// The file for a new store, which is made if there is none. It is refused as by `open_store`, with 43 if its name is not made durable, and with 11 if
+/// there is no memory for the name. After a refusal no file exists that did not exist before, unless its lock was refused: then an empty file may stay,
+/// which `create` uses again.
 pub fn create_store_file<'a, R: AllocGlobal + Clock + Eprint + Files<File = File>>(
     rt: &R,
     progress: &'a Progress<'a, R>,

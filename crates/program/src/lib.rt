@@ -1,9 +1,9 @@
 //! What the program does, for any runtime: its words, the jobs on files that they name, and the sessions of a server.
 //!
-//! It hands on the calls on texts that stand in the libraries below it, with their failures, fault lines and statuses, and the disk over a file.
+//! It passes on the calls on texts of the libraries below it, with their failures, fault lines and statuses, and the disk over a file.
 //!
-//! Before any other file is opened, the program sees to it that the standard streams are taken: in a process that begins with one of them
-//! closed, the next file that is opened takes its number, and what is printed would be written into that file.
+//! Before any other file is opened, the program makes sure that the standard streams are in use: in a process that begins with one of them closed, the next
+//! file that is opened gets its number, and output would be written into that file.
 #![tactic(auto)]
 
 ghost use Rattle.std.specs.Prelude.{◌≡◌, ◌≢◌, ◌≤◌, ◌⊎◌, is_ok, if◌then◌else◌};
@@ -20,12 +20,12 @@ mod doors;
 mod exports;
 mod files;
 mod jobs;
-mod lives;
 mod making_jobs;
 mod names;
 mod patient;
 mod running;
 mod serve_jobs;
+mod server_life;
 mod standings;
 mod store_jobs;
 mod streams;
@@ -58,7 +58,7 @@ pub use storetexts::{
 use streams::{Streams, hold_streams};
 pub use words::{Asked, Job, MISUSE, Misfit, PairTexts, PipePair, Usage, read_words};
 
-/// Tells of which file a refusal is whose fault line names none.
+/// Reports the file of a refusal whose fault line names none.
 fn tell_file<R: Eprint>(progress: &Progress<'_, R>, job: &Job<'_>, failed: &Failed) {
     if let Failed::Code(refusal) = *failed
         && let Some(name) = refused_file(job, refusal)
@@ -67,7 +67,7 @@ fn tell_file<R: Eprint>(progress: &Progress<'_, R>, job: &Job<'_>, failed: &Fail
     }
 }
 
-/// Prints help on standard output and a misuse on standard error, and gives the exit status.
+/// Prints help on standard output and a misuse on standard error, and returns the exit status.
 fn show<R: Print + Eprint>(rt: &R, usage: &Usage) -> u8
     ensures help { usage.now.status ≡ 0 → result ≤ 1 }
     ensures memory { usage.now.status ≡ 1 → result ≡ 1 }
@@ -96,7 +96,7 @@ fn tell_failure<R: Eprint, T>(rt: &R, outcome: &Result<T, Failed>, name: &str) {
     }
 }
 
-/// Prints the fault line of a failure, if there is one, and gives the exit status.
+/// Prints the fault line of a failure, if there is one, and returns the exit status.
 fn ended<R: Eprint, T>(rt: &R, outcome: &Result<T, Failed>, name: &str) -> u8
     ensures { result ≡ (if is_ok outcome.now then 0 else 1) }
 {
@@ -104,10 +104,10 @@ fn ended<R: Eprint, T>(rt: &R, outcome: &Result<T, Failed>, name: &str) -> u8
     status(outcome)
 }
 
-/// The status of a server that is to be started again, since it took nearly all commands of one life.
+/// The status of a server that should be started again, since it accepted nearly all commands of one life.
 const SPENT: u8 = 3;
 
-/// The exit status of a job: 0 where it is done, 3 where a server is to be started again (62), and 1 after any other fault.
+/// The exit status of a job: 0 if it is done, 3 if a server should be started again (62), and 1 after any other fault.
 fn job_status<T>(outcome: &Result<T, Failed>) -> u8
     ensures status { result ≡ job_status outcome.now }
 {
@@ -134,7 +134,7 @@ fn without_words<R: Eprint>(rt: &R, error: &io::Error) -> u8
     }
 }
 
-/// Does what is asked for, tells what failed, and gives the exit status.
+/// Does what is asked for, reports what failed, and returns the exit status.
 fn do_asked<
     R: AllocGlobal + Clock + Eprint + Files<File = File> + Input + Print + Threads,
     T: ServerRuntime,
@@ -160,7 +160,7 @@ where
     job_status(&outcome)
 }
 
-/// Does what these words ask for, and gives the exit status.
+/// Does what these words ask for, and returns the exit status.
 fn do_these<
     R: AllocGlobal + Clock + Eprint + Files<File = File> + Input + Print + Threads,
     T: ServerRuntime,
@@ -175,7 +175,7 @@ where
     }
 }
 
-/// Does what the program's words ask for, and gives the exit status. The standard streams are lent for it, so they are held until it is done.
+/// Does what the program's words ask for, and returns the exit status. The standard streams are lent for this, so they are held until it is done.
 fn do_words<
     R: AllocGlobal + Clock + Env + Eprint + Files<File = File> + Input + Print + Threads,
     T: ServerRuntime,
@@ -194,8 +194,8 @@ where
     }
 }
 
-/// Takes the standard streams, does what the program's words ask for, and gives the exit status: 0 where all was done, 1 after a fault, 2
-/// where the words are not ones that it takes, 3 where a server took nearly all commands of one life. `threads` is the runtime of a desk's threads.
+/// Holds the standard streams, does what the program's words ask for, and returns the exit status: 0 if everything was done, 1 after a fault, 2 if it does
+/// not accept the words, 3 if a server accepted nearly all commands of one life. `threads` is the runtime of a desk's threads.
 pub fn run_program<
     R: AllocGlobal + Clock + Env + Eprint + Files<File = File> + Input + Print + Threads,
     T: ServerRuntime,

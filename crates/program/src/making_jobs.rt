@@ -1,6 +1,6 @@
 //! The jobs of the program that make a store in a file, answered on standard output. Each is one call on texts and disks.
 //!
-//! The file of the new store is opened or made at the first call of its disk: so all texts of which the store is made are read before.
+//! The file of the new store is opened or made at the first call of its disk: so all texts of the store are read before.
 ghost use Rattle.std.specs.Prelude.{None};
 ghost use Rattle.std.specs.Option.{ForSome};
 ghost use Rattle.std.specs.Bool.{Decides};
@@ -40,7 +40,7 @@ impl<'a, R: AllocGlobal + Clock + Eprint + Files<File = File>> MakesDisk<StoreDi
     }
 }
 
-/// The file of a store of which another is made by texts, which is opened to be read.
+/// The file of a store from which another is made with texts. It is opened to be read.
 #[derive(Drop)]
 struct BaseFile<'a, R> {
     rt: &'a R,
@@ -69,7 +69,7 @@ fn new_store<'a, R>(rt: &'a R, progress: &'a Progress<'a, R>, name: &'a str) -> 
     })
 }
 
-/// Whether a store that was to be made is there: all was done, or only its line could not be told.
+/// Whether a store that was to be made exists: everything was done, or only its line could not be written.
 fn is_store_made(outcome: &Result<(), Failed>) -> bool
     ensures { Decides result (IsStoreMade outcome.now) }
 {
@@ -79,7 +79,7 @@ fn is_store_made(outcome: &Result<(), Failed>) -> bool
     }
 }
 
-/// What a job that makes a store ends with. A file that was made and holds no store in the end is removed, while it is still locked.
+/// The result of a job that makes a store. A file that was made and holds no store in the end is removed while it is still locked.
 fn after_making<R: Clock + Eprint + Files>(
     rt: &R,
     outcome: Result<(), Failed>,
@@ -95,8 +95,8 @@ fn after_making<R: Clock + Eprint + Files>(
     outcome
 }
 
-/// A new store in a file, for the network of another with the landmarks of a third, with room for so many arcs. Both texts are read whole
-/// before the store's file is opened or made. A file that was made and holds no store in the end is removed, while it is still locked.
+/// A new store in a file, for the network of another file with the landmarks of a third, with room for so many arcs. Both texts are read completely before
+/// the store's file is opened or made. A file that was made and holds no store in the end is removed while it is still locked.
 pub fn create<R: AllocGlobal + Clock + Eprint + Files<File = File> + Input + Print>(
     rt: &R,
     progress: &Progress<'_, R>,
@@ -122,8 +122,8 @@ pub fn create<R: AllocGlobal + Clock + Eprint + Files<File = File> + Input + Pri
     after_making(rt, outcome, disk)
 }
 
-/// A new store in a file, of the store of another, which is read alone and stays as it is, with room for so many arcs. A file that was made and
-/// holds no store in the end is removed, while it is still locked.
+/// A new store in a file, made from the store of another file, which is only read and stays as it is, with room for so many arcs. A file that was made and
+/// holds no store in the end is removed while it is still locked.
 pub fn migrate<R: AllocGlobal + Clock + Eprint + Files<File = File> + Print>(
     rt: &R,
     progress: &Progress<'_, R>,
@@ -143,8 +143,8 @@ pub fn migrate<R: AllocGlobal + Clock + Eprint + Files<File = File> + Print>(
     after_making(rt, outcome, disk)
 }
 
-/// A copy of the store of a file in another file, with so much room and so many journal pages, where they are given. The store is read alone and
-/// stays as it is. A file that was made and holds no store in the end is removed, while it is still locked.
+/// A copy of the store of a file in another file, with a given room and number of journal pages, if they are given. The store is only read and stays as it
+/// is. A file that was made and holds no store in the end is removed while it is still locked.
 pub fn copy<R: AllocGlobal + Clock + Eprint + Files<File = File> + Print>(
     rt: &R,
     progress: &Progress<'_, R>,
@@ -168,9 +168,9 @@ pub fn copy<R: AllocGlobal + Clock + Eprint + Files<File = File> + Print>(
     after_making(rt, outcome, disk)
 }
 
-/// A new store in a file, of the store of another, which is read alone and stays as it is, brought from the map of which it was made to a new one, with room for so many arcs. Both
-/// texts are read whole before the store is opened, and the new store's file is opened or made last. A file that was made and holds no store in the end is removed, while it is
-/// still locked.
+/// A new store in a file, made from the store of another file, which is only read and stays as it is, brought from the map from which it was made to a new
+/// one, with room for so many arcs. Both texts are read completely before the store is opened, and the new store's file is opened or made last. A file that
+/// was made and holds no store in the end is removed while it is still locked.
 pub fn upgrade<R: AllocGlobal + Clock + Eprint + Files<File = File> + Input + Print>(
     rt: &R,
     progress: &Progress<'_, R>,

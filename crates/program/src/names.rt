@@ -1,4 +1,4 @@
-//! The names by which the program tells of a job: of its texts in fault lines, and of its store where a fault line names none.
+//! The names by which the program reports on a job: those of its texts in fault lines, and that of its store if a fault line names none.
 ghost use Rattle.std.specs.Prelude.{◌≡◌, false, option_map};
 ghost use Rattle.program.specs.Failures.{text_name, folder_name, pairs_name, pipe_name, opened_store, made_store, refused_file, unopened, is_of_first, is_of_second, is_of_third};
 
@@ -7,7 +7,7 @@ use printing::Failed;
 use roadnet::Refusal;
 use words::{Job, PairTexts, PipePair, pipe_at};
 
-/// By what name a fault line of `serve` calls the text of a failure: 3 and on are its pipes.
+/// The name in a fault line of `serve` for the text of a failure: 3 and on are its pipes.
 fn pipe_name<'w>(store: &'w str, pipes: &[PipePair<'w>], failed: &Failed) -> &'w str
     ensures { result.now ≡ pipe_name store.now pipes.now failed.now }
 {
@@ -19,7 +19,7 @@ fn pipe_name<'w>(store: &'w str, pipes: &[PipePair<'w>], failed: &Failed) -> &'w
     }
 }
 
-/// By what name a fault line of `serve` calls its folder of copies.
+/// The name in a fault line of `serve` for its folder of copies.
 fn folder_name<'w>(store: &'w str, copies: Option<&'w str>) -> &'w str
     ensures { result.now ≡ folder_name store.now (option_map (λ folder. folder.now) copies.entry) }
 {
@@ -29,7 +29,7 @@ fn folder_name<'w>(store: &'w str, copies: Option<&'w str>) -> &'w str
     }
 }
 
-/// The name of the text of pairs of which a failure is.
+/// The name of the text of pairs that a failure is about.
 fn pairs_name<'w>(pairs: PairTexts<'w>, of_targets: bool) -> &'w str
     ensures { result.now ≡ pairs_name pairs.entry of_targets }
 {
@@ -39,7 +39,7 @@ fn pairs_name<'w>(pairs: PairTexts<'w>, of_targets: bool) -> &'w str
     }
 }
 
-/// By what name a fault line calls the first text of a job.
+/// The name in a fault line for the first text of a job.
 fn first_name<'w>(job: &Job<'w>) -> &'w str
     ensures { result.now ≡ text_name job.now (unopened 0) }
 {
@@ -62,7 +62,7 @@ fn first_name<'w>(job: &Job<'w>) -> &'w str
     }
 }
 
-/// By what name a fault line calls the second text of a job.
+/// The name in a fault line for the second text of a job.
 fn second_name<'w>(job: &Job<'w>) -> &'w str
     ensures { result.now ≡ text_name job.now (unopened 1) }
 {
@@ -84,7 +84,7 @@ fn second_name<'w>(job: &Job<'w>) -> &'w str
     }
 }
 
-/// By what name a fault line calls the third text of a job.
+/// The name in a fault line for the third text of a job.
 fn third_name<'w>(job: &Job<'w>) -> &'w str
     ensures { result.now ≡ text_name job.now (unopened 2) }
 {
@@ -106,7 +106,7 @@ fn third_name<'w>(job: &Job<'w>) -> &'w str
     }
 }
 
-/// By what name a fault line calls the text of a failure that is of none of the first three: a pipe has a name of its own.
+/// The name in a fault line for the text of a failure that is not among the first three: a pipe has a name of its own.
 fn other_name<'w>(job: &Job<'w>, failed: &Failed) -> &'w str
     requires first { is_of_first failed.now ≡ false }
     requires second { is_of_second failed.now ≡ false }
@@ -135,7 +135,7 @@ fn other_name<'w>(job: &Job<'w>, failed: &Failed) -> &'w str
     }
 }
 
-/// By what name a fault line calls the text of a failure.
+/// The name in a fault line for the text of a failure.
 pub fn text_name<'w>(job: &Job<'w>, failed: &Failed) -> &'w str
     ensures { result.now ≡ text_name job.now failed.now }
 {
@@ -184,7 +184,7 @@ fn made_store<'w>(job: &Job<'w>) -> Option<&'w str>
     }
 }
 
-/// The file of which a refusal is that names none: the store that was opened (40 to 42), or what was to be made (46).
+/// The file that a refusal is about which names none: the store that was opened (40 to 42), or what was to be made (46).
 pub fn refused_file<'w>(job: &Job<'w>, refusal: Refusal) -> Option<&'w str>
     ensures { option_map (λ name. name.now) result ≡ refused_file job.now refusal }
 {

@@ -1,12 +1,12 @@
-//! Streams that are waited for.
+//! Streams whose calls wait.
 use std::io::{ErrorKind, Read, Write};
 use std::time::{Clock, Duration};
 use std::{io, thread};
 
-/// How many milliseconds a stream is let be that has nothing to give, or no room, and doesn't wait by itself.
+/// For how many milliseconds a stream rests that has nothing to give, or no space, and does not wait by itself.
 const REST: u64 = 1;
 
-/// A stream whose calls wait: where a call would have to, as one of a stream with `O_NONBLOCK` may answer, it is made again after a rest.
+/// A stream whose calls wait: if a call would have to wait and does not, as on a stream with `O_NONBLOCK`, it is repeated after a rest.
 #[derive(Drop)]
 pub struct Patient<'a, R, S> {
     clock: &'a R,

@@ -1,4 +1,4 @@
-//! A job of the program, done by what it works on.
+//! Running a job of the program, by what it works on.
 ghost use Rattle.std.specs.Prelude.{◌≡◌, None, Some, IfOk};
 ghost use Rattle.std.specs.Option.{ForSome};
 ghost use Rattle.rows.specs.Kept.{IsWidth};
@@ -24,7 +24,7 @@ use words::Job;
 /// What a job works on.
 #[derive(Clone, Copy)]
 pub enum Kind {
-    /// Texts alone.
+    /// Only texts.
     Texts,
     /// A store that it makes.
     NewStore,

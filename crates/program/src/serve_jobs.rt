@@ -1,4 +1,4 @@
-//! The sessions of the program: one on standard input and output, and one with each client that comes by a door.
+//! The sessions of the program: one on standard input and output, and one with each client that comes through a door.
 ghost use Rattle.std.specs.Prelude.{◌≡◌, ◌+◌, ◌⊎◌, ◌↔◌, true, Some, nat_lt, IfOk, IfErr, IfSome};
 ghost use Rattle.std.specs.Arc.{arc_value};
 ghost use Rattle.std.specs.Option.{ForSome};
@@ -27,7 +27,7 @@ use crate::bounds::ServerRuntime;
 use crate::copies::{FileCopies, see_folder};
 use crate::doors::{Doors, FileNames, PipeDoor, SeenPipes, doors_of, see_pipes};
 use crate::files::{FIRST_PIPE, open_served_store, standard_input, standard_output};
-use crate::lives::{is_spent, start_watching};
+use crate::server_life::{is_spent, start_watching};
 use crate::standings::start_telling;
 use desk::{Closed, Desk, Gate, Handle, History, Naming, Setup};
 use dimacs::Counted;
@@ -36,7 +36,7 @@ use filedisk::FileLock;
 use printing::{CountedWriter, Done, Failed};
 use progress::Progress;
 use roadnet::Refusal;
-use sessions::{Answering, Copies, Door, LastLine, Terms, Visits, serve, serve_door};
+use sessions::{Answering, Copies, Door, LastLine, Started, Terms, Visits, serve, serve_door};
 use std::alloc::Global;
 use std::fs::File;
 use std::io::{BufRead, Write};
@@ -48,7 +48,7 @@ use std::time::{Clock, Duration};
 use store::{Store, open};
 use words::{PipePair, pipe_at};
 
-/// The gate of a session's desk. It holds nothing up, and tells on standard error of a builder that ended.
+/// The gate of a session's desk. It delays nothing, and reports on standard error that a builder has ended.
 #[derive(Drop)]
 pub struct Teller<T: Eprint + Copy> {
     pub rt: T,
@@ -80,9 +80,9 @@ impl<T: Eprint + Copy> Gate for Teller<T> {
 /// What a session leaves.
 #[derive(Drop)]
 pub struct Ended<D: Disk> {
-    /// What it came to.
+    /// Its outcome.
     pub outcome: Result<(), Failed>,
-    /// What is left of its desk.
+    /// What its desk leaves.
     pub closed: Closed<D>,
     /// How the desk built its views.
     pub done: Done,
@@ -91,7 +91,7 @@ pub struct Ended<D: Disk> {
 /// For how many milliseconds a server that ends lets sessions at doors send the answers that they are within.
 const LAST_ANSWERS: u64 = 1000;
 
-/// Starts a thread for a door. Refused is want of memory (11) and of threads (63).
+/// Starts a thread for a door. It fails with 11 for lack of memory, and with 63 if the system gives no thread.
 fn start_door<
     N: Naming + Send + Sync + 'static,
     D: Disk + Drop + Send + 'static,
@@ -107,7 +107,7 @@ fn start_door<
     desk: &Handle<N, D, G, T>,
     door: P,
     visits: &Arc<Visits<N, C>>,
-) -> Result<(), Refusal>
+) -> Result<Started, Refusal>
     ensures causes { IfErr result IsUnstarted }
 {
     let Ok(desk) = desk.again() else {
@@ -119,7 +119,7 @@ fn start_door<
     serve_door(threads, alloc, desk, door, visits)
 }
 
-/// Starts a thread for each door. Refused is want of memory (11) and of threads (63).
+/// Starts a thread for each door. It fails with 11 for lack of memory, and with 63 if the system gives no thread.
 fn start_each<
     N: Naming + Send + Sync + 'static,
     D: Disk + Drop + Send + 'static,
@@ -144,8 +144,9 @@ fn start_each<
     Ok(())
 }
 
-/// Starts a thread for each door, whose sessions have these copies made, and one that ends the server once it may take no group more, and opens the doors once all have theirs; where the
-/// clients are counted, one more tells from then on how the server stands. Refused is want of memory (11) and of threads (63); the doors stay closed then.
+/// Starts a thread for each door, whose sessions have these copies made, and one that ends the server once it can accept no other group. Opens the doors
+/// once all have their threads. If the clients are counted, one more thread reports from then on on the server. It fails with 11 for lack of memory, and
+/// with 63 if the system gives no thread; then the doors stay closed.
 fn start_doors<
     N: Naming + Send + Sync + 'static,
     D: Disk + Drop + Send + 'static,
@@ -183,10 +184,10 @@ where
     Ok(visits)
 }
 
-/// Closes a desk behind its last session, and hands out what is left of it. Once nothing more is written the file's lock is let go: the desk's last
-/// view is built behind that. Sessions at doors that are within an answer then have a second to send it.
+/// Closes a desk after its last session, and returns what it leaves. Once nothing more is written, the file's lock is released; the desk's last view is
+/// built after that. Then sessions at doors that are within an answer have a second to send it.
 ///
-/// A desk that can't be closed (61) doesn't come.
+/// A desk that cannot be closed (61) never occurs.
 fn close_desk<
     N: Naming + Send + Sync + 'static,
     D: Disk + Drop + Send + 'static,
@@ -212,12 +213,12 @@ fn close_desk<
     desk.close()
 }
 
-/// A session over an opened store, and those with clients that come by doors: what it came to, and what is left of its desk, which is closed after it however it
-/// ended. Once nothing more is written the file's lock is let go: the desk's last view is built behind that. Sessions at doors that are within an answer
-/// then have a second to send it; those that go on are told 61 from then on, and are cut off where the program ends.
+/// A session over an opened store, and those with clients that come through doors. Returns its outcome, and what its desk leaves, which is closed after it
+/// in any case. Once nothing more is written, the file's lock is released; the desk's last view is built after that. Then sessions at doors that are within
+/// an answer have a second to send it. Those that go on get 61 from then on, and are cut off when the program ends.
 ///
-/// Refused is what no desk is started for: want of memory (11) and of threads (63). A desk that can't be closed, or showed less than the session, or one at a door that
-/// has ended, has seen (61), doesn't come.
+/// It is refused if no desk can be started: for lack of memory (11), or if the system gives no thread (63). A desk that cannot be closed, or that showed
+/// less than the session, or a finished one at a door, has seen (61), never occurs.
 fn serve_store<
     N: Naming + Send + Sync + 'static,
     D: Disk + Drop + Send + 'static,
@@ -249,7 +250,7 @@ where
     requires workers { IsWorkers setup.workers }
     requires new { IsNewDesk N.origin history store }
     requires came_tidy { N.came_tidy ↔ CameTidy D.honest D.content store.given }
-    // The lines were answered in their order. Whatever a stop leaves of the closed desk: each command that was told to be durable has its number in it,
+    // The lines were answered in their order. Whatever a stop leaves of the closed desk: each command that was reported to be durable has its number in it,
     // and it begins with all commands after which a query was answered.
     ensures answered { IfOk result (λ ended. IfSome (I.remaining (reader_of reader.old)) (λ text. Serves (C.copying copies) Taken N.origin text (I.remaining (reader_of reader.new)) (W.contents (writer_of writer.old)) (W.contents (writer_of writer.new)) (IsKept ended.closed.whole ended.closed.shown) ended.outcome)) }
     // The desk's views were built by the setup.
@@ -258,8 +259,8 @@ where
     ensures reads { IfOk result (λ ended. CountsRead (failed_calls reader.old) (failed_calls reader.new) ended.outcome) }
     ensures writes { IfOk result (λ ended. CountsWrites (failed_writes writer.old) (failed_writes writer.new) ended.outcome) }
     ensures origin { IfOk result (λ ended. ended.closed.whole.origin ≡ N.origin) }
-    // Where the store came tidy, the disk keeps the disk model, and what a stop may leave of it stands for the network after a beginning of the history, with all that was
-    // acknowledged or shown.
+    // If the store came tidy, the disk keeps the disk model, and what a stop may leave on it stands for the network after a front of the history that has
+    // everything acknowledged or shown.
     ensures honest { CameTidy D.honest D.content store.given → IfOk result (λ ended. D.honest ended.closed.disk) }
     ensures left { CameTidy D.honest D.content store.given → IfOk result (λ ended. AreAmong (D.left ended.closed.disk) (KeepsDesk ended.closed.whole ended.closed.shown ended.closed.journal_pages)) }
     ensures causes { IfErr result (λ refusal. IsUnstarted refusal ⊎ (refusal ≡ closed)) }
@@ -284,10 +285,10 @@ where
     })
 }
 
-/// A session over the store of a disk, and those with clients that come by doors: what it came to, and what is left of its desk, which is closed after it however it
-/// ended. Copies for which lines ask are made in this folder, where there is one, with as many journal pages as the store has.
+/// A session over the store of a disk, and those with clients that come through doors. Returns its outcome, and what its desk leaves, which is closed after
+/// it in any case. Copies that lines ask for are made in this folder, if there is one, with as many journal pages as the store has.
 ///
-/// Refused is a store that can't be opened (11, 40 to 43), then what no desk is started for.
+/// It is refused if the store cannot be opened (11, 40 to 43), and then if no desk can be started.
 pub fn serve_disk<
     D: Disk + Drop + Send + 'static,
     G: Gate + Drop + Send + Sync + 'static,
@@ -318,13 +319,13 @@ where
     ensures workers { IfOk result (λ ended. told_workers ended.done ≡ Some setup.workers) }
     ensures reads { IfOk result (λ ended. CountsRead (failed_calls reader.old) (failed_calls reader.new) ended.outcome) }
     ensures writes { IfOk result (λ ended. CountsWrites (failed_writes writer.old) (failed_writes writer.new) ended.outcome) }
-    // The lines were answered in their order, and what they were told is kept: each command that was told to be durable has its number in whatever a stop
-    // leaves of the closed desk, which begins with all commands after which a query was answered.
+    // The lines were answered in their order, and what they promised is kept: each command that was reported to be durable has its number in whatever a
+    // stop leaves of the closed desk, which begins with all commands after which a query was answered.
     ensures answered { IfOk result (λ ended. IfSome (I.remaining (reader_of reader.old)) (λ text. Serves (copies_in folder) Taken ended.closed.whole.origin text (I.remaining (reader_of reader.new)) (W.contents (writer_of writer.old)) (W.contents (writer_of writer.new)) (IsKept ended.closed.whole ended.closed.shown) ended.outcome)) }
     // The history is of the network and version that the disk's content stood for.
     ensures opened { D.honest disk → IfOk result (λ ended. HasVersion (D.content disk) ended.closed.whole.origin.base ended.closed.whole.origin.version) }
-    // Where that content was tidy, the closed disk keeps the disk model, and what a stop may leave of it stands for the network after a beginning of the history, with all
-    // that was acknowledged or shown.
+    // If that content was tidy, the closed disk keeps the disk model, and what a stop may leave on it stands for the network after a front of the history
+    // that has everything acknowledged or shown.
     ensures honest { CameTidy D.honest D.content disk → IfOk result (λ ended. D.honest ended.closed.disk) }
     ensures left { CameTidy D.honest D.content disk → IfOk result (λ ended. AreAmong (D.left ended.closed.disk) (KeepsDesk ended.closed.whole ended.closed.shown ended.closed.journal_pages)) }
     ensures refused { IfErr result (λ refusal. IsUnopened (D.honest disk) (D.content disk) refusal ⊎ (IsUnstarted refusal ⊎ (refusal ≡ closed))) }
@@ -340,7 +341,7 @@ where
     )
 }
 
-/// Tells of a failure by which name it is none of a named pipe.
+/// Reports the name that is not that of a named pipe, if a failure is about one.
 fn tell_pipe<R: Eprint>(progress: &Progress<'_, R>, pipes: &[PipePair<'_>], failed: &Failed) {
     if let Failed::Text { which, fault: _ } = failed
         && *which >= FIRST_PIPE
@@ -360,7 +361,8 @@ struct Opened<D, P> {
     setup: Setup,
 }
 
-/// What the session on standard input and output came to, or how the desk built its views; or that the desk took so many commands that it is to be started again (62).
+/// The outcome of the session on standard input and output, or how the desk built its views; or that the desk accepted so many commands that the server
+/// should be started again (62).
 fn outcome_of<D: Disk + Drop>(ended: Ended<D>) -> Result<Done, Failed>
     ensures done { IfOk result (λ done. done ≡ ended.done) }
     ensures outcome { result ≡ server_outcome ended.outcome (nat_lt most_of_life (count_of ended.closed.whole.groups + most_of_group)) ended.done }
@@ -377,7 +379,7 @@ fn outcome_of<D: Disk + Drop>(ended: Ended<D>) -> Result<Done, Failed>
     Ok(done)
 }
 
-/// A session on standard input and output, and one with each client that comes by a door.
+/// A session on standard input and output, and one with each client that comes through a door.
 fn serve_opened<
     R: AllocGlobal + Clock + Input + Print,
     T: ServerRuntime,
@@ -419,7 +421,7 @@ where
     }
 }
 
-/// The pairs of pipes, each of whose names is that of a named pipe. One that is none is told.
+/// The pairs of pipes, if each name is that of a named pipe. One that is not is reported.
 fn seen_pipes<'a, 'w, R: Eprint + Files>(
     rt: &R,
     progress: &Progress<'_, R>,
@@ -439,8 +441,8 @@ fn seen_pipes<'a, 'w, R: Eprint + Files>(
 /// The doors of a server, and the folder of its copies, if one is named.
 type DoorsAndFolder<T> = (Doors<PipeDoor<T>>, Option<String>);
 
-/// The doors at these pipes, which are closed yet, and the folder of copies, if one is named. A name that is none of a pipe is told (10 of line 0),
-/// and then one of a folder that is not there.
+/// The doors at these pipes, still closed, and the folder of copies, if one is named. A name that is not that of a pipe is reported (10 of line 0), and
+/// then a folder that does not exist.
 fn doors_and_folder<R: AllocGlobal + Clock + Eprint + Files<File = File>, T: Copy + Drop>(
     rt: &R,
     threads: T,
@@ -458,9 +460,9 @@ fn doors_and_folder<R: AllocGlobal + Clock + Eprint + Files<File = File>, T: Cop
     }
 }
 
-/// A session over the store of a file, which nobody else has while it may be written, and one with each client that comes by a pair of pipes.
+/// A session over the store of a file, which nobody else has open while it may be written, and one with each client that comes through a pair of pipes.
 ///
-/// A name that is none of a pipe is told (10 of line 0) before anything is served, and then one of a folder that is not there.
+/// A name that is not that of a pipe is reported (10 of line 0) before anything is served, and then a folder that does not exist.
 pub fn run_serve<
     R: AllocGlobal + Clock + Eprint + Files<File = File> + Input + Print,
     T: ServerRuntime,

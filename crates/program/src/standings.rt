@@ -1,4 +1,4 @@
-//! How a server stands, told on standard error where `--verbose` asks for it.
+//! Reports on a server on standard error, if `--verbose` asks for them.
 use desk::{DeskState, Gate, Handle, Naming, Working};
 use disk::Disk;
 use sessions::let_go;
@@ -8,10 +8,10 @@ use std::sync::{Arc, Mutex, Wait};
 use std::thread::{self, Threads};
 use std::time::{Clock, Duration};
 
-/// How many seconds stand between two lines at least.
+/// The least number of seconds between two lines.
 const APART: u64 = 1;
 
-/// How many clients came in by the doors of a server, and how many of them went.
+/// How many clients came in through the doors of a server, and how many of them left.
 #[derive(Clone, Copy, Debug, PartialEq, Eq)]
 pub struct Visits {
     pub came: u64,
@@ -24,13 +24,13 @@ impl Visits {
         self.came = self.came.saturating_add(1);
     }
 
-    /// One of them has gone.
+    /// One of them has left.
     fn one_went(&mut self) {
         self.went = self.went.saturating_add(1);
     }
 }
 
-/// The clients of a server, counted where it is told how many there are.
+/// The clients of a server, counted if their number is reported.
 #[derive(Drop)]
 pub struct Guests {
     counted: Option<Arc<Mutex<Visits>>>,
@@ -67,7 +67,7 @@ impl Guests {
         }
     }
 
-    /// One of them has gone.
+    /// One of them has left.
     pub fn one_went<R: Wait>(&self, rt: &R) {
         if let Some(visits) = &self.counted {
             visits.lock(rt).one_went();
@@ -75,15 +75,15 @@ impl Guests {
     }
 }
 
-/// How a server stands, and who came and went until then. As it is told: `durable D, shown V`, which versions are durable and shown; `, B behind`, where
-/// that is fewer by B; `, C clients, N came, M went`, once one has come; and what is told of a thread that has ended.
+/// The state of a server, and who came and left until then. It is reported as `durable D, shown V`, the durable and the shown version; `, B behind`, if the
+/// latter is lower by B; `, C clients, N came, M went`, once one has come; and the report of a thread that has ended.
 #[derive(Clone, Copy, Debug, PartialEq, Eq)]
 pub struct Standing {
     pub desk: DeskState,
     pub visits: Visits,
 }
 
-/// What is told of a flusher that doesn't go on.
+/// The report on a flusher that is not running.
 fn told_of_flusher(flusher: Working) -> &'static str {
     match flusher {
         Working::On => "",
@@ -92,7 +92,7 @@ fn told_of_flusher(flusher: Working) -> &'static str {
     }
 }
 
-/// What is told of a builder that doesn't go on.
+/// The report on a builder that is not running.
 fn told_of_builder(builder: Working) -> &'static str {
     match builder {
         Working::On => "",
@@ -120,7 +120,7 @@ impl Display for Standing {
     }
 }
 
-/// Tells how a server stands, at once and then each second in which that has changed, until its desk is closed.
+/// Reports on a server, at once and then each second in which its state has changed, until its desk is closed.
 fn tell_standings<N: Naming, D: Disk + Drop, G: Gate + Drop, R: Wait + Clock + Eprint + Copy>(
     rt: &R,
     desk: &Handle<N, D, G, R>,
@@ -144,8 +144,8 @@ fn tell_standings<N: Naming, D: Disk + Drop, G: Gate + Drop, R: Wait + Clock + E
     }
 }
 
-/// Starts a thread that tells how a server stands, where its clients are counted, and lets it go: it ends once the desk is closed, or is cut off where the
-/// program ends. Where no memory or no thread is given for it, nothing is told.
+/// Starts a thread that reports on a server, if its clients are counted, and does not join it: it ends once the desk is closed, or is cut off when the
+/// program ends. If there is no memory or no thread for it, nothing is reported.
 pub fn start_telling<
     N: Naming + Send + Sync + 'static,
     D: Disk + Drop + Send + 'static,

@@ -1,5 +1,5 @@
 //! The jobs of the program on a store in a file, answered on standard output. Each opens its files, and then the output, for one call on any disk.
-ghost use Rattle.std.specs.Prelude.{◌≡◌, ◌≢◌, OnOk, IfOk, IfErr};
+ghost use Rattle.std.specs.Prelude.{◌≡◌, ◌≢◌, ℕ, OnOk, IfOk, IfErr};
 ghost use Rattle.std.specs.Io.KnownBytes.{Appends};
 ghost use Rattle.std.specs.Option.{ForSome};
 ghost use lib.Chars.{codes};
@@ -29,9 +29,9 @@ use std::thread::Threads;
 use std::time::Clock;
 use store::{Store, open};
 use storetexts::{apply_text, ask_table_text, ask_text, check_text, show_text};
-use words::PairTexts;
+use words::{ArcNumbers, PairTexts};
 
-/// The failure of a text that is read for a store: a refusal of the store is told before it.
+/// The failure of a text that is read for a store. A refusal of the store is reported before it.
 fn after_opening<D: Disk + Drop>(alloc: Global, disk: D, failed: Failed) -> Failed
     ensures { D.honest disk → IsToldAfterOpening (D.content disk) failed result }
 {
@@ -41,8 +41,7 @@ fn after_opening<D: Disk + Drop>(alloc: Global, disk: D, failed: Failed) -> Fail
     }
 }
 
-/// The failure of a text that stands behind another in a call on a store: a refusal of the store is told before it, and then a fault of the text of
-/// sources.
+/// The failure of a text that follows another in a call on a store. A refusal of the store is reported before it, and then a fault of the text of sources.
 fn after_sources<D: Disk + Drop, R: BufRead>(
     alloc: Global,
     disk: D,
@@ -57,7 +56,7 @@ fn after_sources<D: Disk + Drop, R: BufRead>(
     }
 }
 
-/// The first text of a call on the store of a disk. Where it can't be opened, a refusal of the store is still told first.
+/// The first text of a call on the store of a disk. If it cannot be opened, a refusal of the store is still reported first.
 fn open_beside<'a, R: AllocGlobal + Clock + Eprint + Files<File = File> + Input, D: Disk + Drop>(
     rt: &'a R,
     progress: &'a Progress<'a, R>,
@@ -70,8 +69,8 @@ fn open_beside<'a, R: AllocGlobal + Clock + Eprint + Files<File = File> + Input,
     }
 }
 
-/// The groups of commands of a file, on the store of another. A fault of the store is told before one of the commands. No row is computed, so no
-/// width is asked for.
+/// The groups of commands of a file, on the store of another. A fault of the store is reported before one of the commands. No row is computed, so there is
+/// no width.
 pub fn apply<R: AllocGlobal + Clock + Eprint + Files<File = File> + Input + Print>(
     rt: &R,
     progress: &Progress<'_, R>,
@@ -90,8 +89,7 @@ pub fn apply<R: AllocGlobal + Clock + Eprint + Files<File = File> + Input + Prin
     outcome
 }
 
-/// The pairs of a file in the network of a store, which is read alone and stays as it is. A fault of the store is told before one of the
-/// pairs.
+/// The pairs of a file in the network of a store, which is only read and stays as it is. A fault of the store is reported before one of the pairs.
 fn ask_listed<R: AllocGlobal + Clock + Eprint + Files<File = File> + Input + Print + Threads>(
     rt: &R,
     progress: &Progress<'_, R>,
@@ -116,8 +114,8 @@ fn ask_listed<R: AllocGlobal + Clock + Eprint + Files<File = File> + Input + Pri
     outcome
 }
 
-/// The pairs between the nodes of two files in the network of a store, which is read alone and stays as it is. A fault of the store is told before one of
-/// the texts, and one of the sources before one of the targets.
+/// The pairs between the nodes of two files in the network of a store, which is only read and stays as it is. A fault of the store is reported before one
+/// of the texts, and one of the sources before one of the targets.
 fn ask_table<R: AllocGlobal + Clock + Eprint + Files<File = File> + Input + Print + Threads>(
     rt: &R,
     progress: &Progress<'_, R>,
@@ -148,7 +146,7 @@ fn ask_table<R: AllocGlobal + Clock + Eprint + Files<File = File> + Input + Prin
     outcome
 }
 
-/// Pairs in the network of a store, which is read alone and stays as it is.
+/// Pairs in the network of a store, which is only read and stays as it is.
 pub fn ask<R: AllocGlobal + Clock + Eprint + Files<File = File> + Input + Print + Threads>(
     rt: &R,
     progress: &Progress<'_, R>,
@@ -167,7 +165,7 @@ pub fn ask<R: AllocGlobal + Clock + Eprint + Files<File = File> + Input + Print 
     }
 }
 
-/// How the store of a file stands. The file is read alone and stays as it is.
+/// How the store of a file stands. The file is only read and stays as it is.
 pub fn check<R: AllocGlobal + Clock + Eprint + Files<File = File> + Print>(
     rt: &R,
     progress: &Progress<'_, R>,
@@ -179,20 +177,36 @@ pub fn check<R: AllocGlobal + Clock + Eprint + Files<File = File> + Print>(
     outcome
 }
 
-/// A look at the arcs of a store's network. The file is read alone and stays as it is.
+/// What is asked of a network by these numbers.
+fn look_by(numbers: ArcNumbers) -> Look
+    ensures arc { (number : ℕ) → numbers ≡ ArcNumbers.Arc number → result ≡ Look.Arc number }
+    ensures between { (tail head : ℕ) → numbers ≡ ArcNumbers.Between tail head → result ≡ Look.Between tail head }
+{
+    match numbers {
+        ArcNumbers::Arc { number } => Look::Arc { number },
+        ArcNumbers::Between { tail, head } => Look::Between { tail, head },
+    }
+}
+
+/// A look at the arcs of a store's network. The file is only read and stays as it is.
 pub fn show<R: AllocGlobal + Clock + Eprint + Files<File = File> + Print>(
     rt: &R,
     progress: &Progress<'_, R>,
     store: &str,
-    look: Look,
+    look: ArcNumbers,
 ) -> Result<(), Failed> {
     let disk = open_store_to_read(rt, progress, STORE, store)?;
     let mut writer = standard_output(rt)?;
-    let (outcome, _disk) = show_text(rt.alloc(), disk, look, &mut CountedWriter::new(&mut writer));
+    let (outcome, _disk) = show_text(
+        rt.alloc(),
+        disk,
+        look_by(look),
+        &mut CountedWriter::new(&mut writer),
+    );
     outcome
 }
 
-/// Writes `ok V` and sends it out.
+/// Writes `ok V` and sends it.
 fn tell_version<W: Write>(out: &mut CountedWriter<'_, W>, version: u64) -> Result<(), Failed>
     ensures { Puts W.contents (number_line (codes "ok ") version) result out.old out.new }
 {
@@ -200,7 +214,7 @@ fn tell_version<W: Write>(out: &mut CountedWriter<'_, W>, version: u64) -> Resul
     out.flush()
 }
 
-/// Writes the network of a store out in a folder, and tells of it to a writer.
+/// Writes the network of a store as texts in a folder, and reports that to a writer.
 fn export_told<R: AllocGlobal + Clock + Eprint + Files<File = File>, D: Disk, W: Write>(
     rt: &R,
     progress: &Progress<'_, R>,
@@ -209,7 +223,7 @@ fn export_told<R: AllocGlobal + Clock + Eprint + Files<File = File>, D: Disk, W:
     out: &mut CountedWriter<'_, W>,
 ) -> Result<(), Failed>
     ensures told { OnOk result (Appends (W.contents (writer_of out.old)) (W.contents (writer_of out.new)) (number_line (codes "ok ") store.now.version)) }
-    // With 12 all is done, and only its line could not be told; of each other failure nothing is told.
+    // At 12 everything is done, and only its line could not be written. At any other failure nothing is reported.
     ensures refused { IfErr result (λ failed. failed ≢ Failed.Code write → IsTextUnwritten failed) }
     ensures untold { IfErr result (λ failed. failed ≢ Failed.Code write → out.new ≡ out.old) }
 {
@@ -222,8 +236,8 @@ fn export_told<R: AllocGlobal + Clock + Eprint + Files<File = File>, D: Disk, W:
     }
 }
 
-/// The network of a store, written out as three texts in a folder. The store's file is read alone and stays as it is. Where all is done, and only its
-/// line could not be told (12), the texts stay.
+/// The network of a store, written as three texts in a folder. The store's file is only read and stays as it is. If everything is done, and only its line
+/// could not be written (12), the texts stay.
 pub fn export<R: AllocGlobal + Clock + Eprint + Files<File = File> + Print>(
     rt: &R,
     progress: &Progress<'_, R>,

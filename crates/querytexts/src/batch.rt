@@ -32,7 +32,7 @@ fn query_of(pair: Pair) -> Query
     }
 }
 
-/// The ends of a text's pairs.
+/// The sources and targets of a text's pairs.
 struct OfText;
 
 impl Ends for OfText {
@@ -51,7 +51,7 @@ impl Ends for OfText {
     }
 }
 
-/// Writes one line a pair.
+/// Writes one line for each pair.
 fn put_answers<W: Write>(
     out: &mut CountedWriter<'_, W>,
     pairs: &[Pair],
@@ -66,8 +66,8 @@ fn put_answers<W: Write>(
     Ok(())
 }
 
-/// Writes the network's version and a right answer to each pair, by searches of the network, and sends them out; or nothing, where no
-/// memory is there for all replies (11). A failed write is 12, and then an unknown part was written.
+/// Writes the network's version and a right answer to each pair, by searches of the network, and sends them; or nothing, if there is no memory for all
+/// replies (11). A failed write is 12; then an unknown part was written.
 pub fn answer_by<T: Threads, W: Write>(
     rt: &T,
     alloc: Global,
@@ -89,12 +89,12 @@ pub fn answer_by<T: Threads, W: Write>(
     Ok(Done::by(searches))
 }
 
-/// Writes the network's version and a right answer to each pair, in their order, and sends them out; or nothing, where no memory is
-/// there for all replies (11). A failed write is 12, and then an unknown part was written.
+/// Writes the network's version and a right answer to each pair, in their order, and sends them; or nothing, if there is no memory for all replies (11). A
+/// failed write is 12; then an unknown part was written.
 ///
-/// `delta` is the width of a search's buckets, 1 to 2147483647; without one it is the network's default. Whatever the order of the pairs, each source is
-/// searched once, or, where these are fewer, each target over the arcs turned round. Up to four of these searches are made side by side, and 16 rows
-/// are held at once, of 4 or 8 bytes a node; a pair takes 20 bytes.
+/// `delta` is the width of a search's buckets, 1 to 2147483647. Without one it is the network's default. Whatever the order of the pairs, each source is
+/// searched once; or, if there are fewer targets, each target is, over the reversed arcs. Up to four of these searches are made side by side, and 16 rows
+/// are held at once, of 4 or 8 bytes a node. A pair takes 20 bytes.
 pub fn answer_pairs<T: Threads, W: Write>(
     rt: &T,
     alloc: Global,
@@ -112,14 +112,14 @@ pub fn answer_pairs<T: Threads, W: Write>(
     answer_by(rt, alloc, network, version, &searches, pairs, out)
 }
 
-/// Writes the answer to each pair of a `.p2p` text, in the network of a `.gr` text, and nothing else: `v 0`, then one line a pair, in their
-/// order. Both texts are read whole before anything is written, the network first, and the first fault decides. Nodes of the pairs are judged by
-/// the network's number of nodes.
+/// Writes the answer to each pair of a `.p2p` text, in the network of a `.gr` text, and nothing else: `v 0`, then one line for each pair, in their order.
+/// Both texts are read completely before anything is written, the network first, and the first fault is the one reported. The nodes of the pairs are judged
+/// by the network's number of nodes.
 ///
-/// `delta` is the width of a search's buckets, 1 to 2147483647: every width gives the same answers; without one it is
-/// the network's default. Each source is searched once, or each target, where these are fewer, as `answer_pairs` does it. Where no memory is there for all
-/// replies the call is refused with 11 and nothing is written. A failed read is fault 10 of the text and line being read, and a failed write is 12: both
-/// are told only where the count of that text's or the writer's failed calls rose. After an `Err` texts and writer are not used again.
+/// `delta` is the width of a search's buckets, 1 to 2147483647. Every width gives the same answers. Without one it is the network's default. Each source is
+/// searched once, or each target if there are fewer targets, as by `answer_pairs`. If there is no memory for all replies, the call is refused with 11 and
+/// nothing is written. A failed read is fault 10 of the text and line being read, and a failed write is 12. Both are reported only if the count of failed
+/// calls of that text or of the writer rose. After an `Err` the texts and the writer are not used again.
 pub fn batch_text<T: Threads, N: Text, P: Text, W: Write>(
     rt: &T,
     alloc: Global,

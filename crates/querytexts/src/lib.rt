@@ -1,4 +1,4 @@
-//! Queries of a text's network: one, the pairs of another text, the pairs between the nodes of two texts, and all nodes within a length of one.
+//! Queries of a text's network: one, the pairs of another text, the pairs between the nodes of two texts, and all nodes within a length of a node.
 #![tactic(auto)]
 
 mod batch;

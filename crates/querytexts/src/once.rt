@@ -20,10 +20,10 @@ use std::thread::Threads;
 
 const NETWORK: u8 = 0;
 
-/// How many rows are kept at most: one query keeps none.
+/// The most rows that are kept: one query keeps none.
 const ROWS: u32 = 1;
 
-/// Writes the lines of a right reply to `dist s t`, at version 0, and sends them out; or nothing, where no memory is there for the reply.
+/// Writes the lines of a right reply to `dist s t`, at version 0, and sends them; or nothing, if there is no memory for the reply.
 fn answer_one<T: Threads, W: Write>(
     rt: &T,
     alloc: Global,
@@ -53,14 +53,12 @@ fn answer_one<T: Threads, W: Write>(
     Ok(Done::by(&searches))
 }
 
-/// Writes the answer to `dist s t` in the network of a `.gr` text, at version 0, and nothing else. The text is read whole before anything is
-/// written.
+/// Writes the answer to `dist s t` in the network of a `.gr` text, at version 0, and nothing else. The text is read completely before anything is written.
 ///
-/// `delta` is the width of a search's buckets, 1 to 2147483647: every width gives the same answer; without one it is the
-/// network's default. The search ends at the target, and is made by a crew of the runtime's threads.
-/// Where no memory is there for the reply the call is refused with 11 and nothing is written. A failed read is fault 10 of the line
-/// being read, and a failed write is 12: both are told only where the count of the text's or writer's failed calls rose. After an
-/// `Err` text and writer are not used again.
+/// `delta` is the width of a search's buckets, 1 to 2147483647. Every width gives the same answer. Without one it is the network's default. The search ends
+/// at the target, and is made by a crew of the runtime's threads. If there is no memory for the reply, the call is refused with 11 and nothing is written.
+/// A failed read is fault 10 of the line being read, and a failed write is 12. Both are reported only if the count of failed calls of the text or of the
+/// writer rose. After an `Err` the text and the writer are not used again.
 pub fn once_text<T: Threads, S: Text, W: Write>(
     rt: &T,
     alloc: Global,

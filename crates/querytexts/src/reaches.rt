@@ -27,7 +27,7 @@ use std::thread::Threads;
 
 const NETWORK: u8 = 0;
 
-/// Around which node others are asked for, and which way the walks lead.
+/// The node around which others are asked for, and in which direction the walks lead.
 #[derive(Clone, Copy, Debug, PartialEq, Eq)]
 pub enum Reach {
     /// The nodes to which walks from `source` lead.
@@ -47,7 +47,7 @@ impl Reach {
         }
     }
 
-    /// The query of the walks between it and another node.
+    /// The query for the walks between it and another node.
     fn query_of(self, node: u32) -> Query
         ensures { result ≡ query_of self node }
     {
@@ -65,10 +65,10 @@ impl Reach {
     }
 }
 
-/// How many rows are there at once: a search around a node makes none.
+/// How many rows exist at once: a search around a node makes none.
 const ROWS: u32 = 1;
 
-/// The groups of the network's open arcs, those the other way round for walks to a node. The one error is want of memory.
+/// The groups of the network's open arcs; for walks to a node, of the reversed arcs. The only error is lack of memory.
 fn group(
     searches: &Searches,
     alloc: Global,
@@ -83,7 +83,7 @@ fn group(
     }
 }
 
-/// The nodes with walks whose least length is within the limit, ascending. The one error is want of memory.
+/// The nodes with walks whose least length is within the limit, ascending. The only error is lack of memory.
 fn find<T: Threads>(
     rt: &T,
     searches: &Searches,
@@ -110,7 +110,7 @@ fn find<T: Threads>(
     }
 }
 
-/// Writes one line a node.
+/// Writes one line for each node.
 fn put_reach<W: Write>(
     out: &mut CountedWriter<'_, W>,
     reach: Reach,
@@ -124,7 +124,7 @@ fn put_reach<W: Write>(
     Ok(())
 }
 
-/// Writes the version and one line a node, and sends them out.
+/// Writes the version and one line for each node, and sends them.
 fn put_found<W: Write>(
     out: &mut CountedWriter<'_, W>,
     reach: Reach,
@@ -137,7 +137,7 @@ fn put_found<W: Write>(
     out.flush()
 }
 
-/// Writes the version and that there is no such node, and sends them out.
+/// Writes the version and that there is no such node, and sends them.
 fn put_no_node<W: Write>(out: &mut CountedWriter<'_, W>) -> Result<(), Failed>
     ensures { Puts W.contents (version_line 0 ++ refusal_line (number_of Refusal.NoSuchNode)) result out.old out.new }
 {
@@ -146,7 +146,7 @@ fn put_no_node<W: Write>(out: &mut CountedWriter<'_, W>) -> Result<(), Failed>
     out.flush()
 }
 
-/// Writes the version 0 and a line for each node within the limit, and sends them out; or nothing, where no memory is there for them.
+/// Writes the version 0 and a line for each node within the limit, and sends them; or nothing, if there is no memory for them.
 fn answer_reach<T: Threads, W: Write>(
     rt: &T,
     alloc: Global,
@@ -159,7 +159,7 @@ fn answer_reach<T: Threads, W: Write>(
     requires { ForSome delta IsWidth }
     ensures answered { OnOk result (AnswersReach network.now reach limit (W.contents (writer_of out.old)) (W.contents (writer_of out.new))) }
     ensures answers { Answers delta result out.old out.new }
-    // Of a node that is none no memory is taken.
+    // For a number that is not a node's, no memory is taken.
     ensures memory { is_node network.now (center_of reach) ≡ false → IfErr result (λ failed. failed ≡ Failed.Code Refusal.Write) }
 {
     let searches = Searches::new(delta, ROWS);
@@ -174,15 +174,15 @@ fn answer_reach<T: Threads, W: Write>(
     Ok(Done::by(&searches))
 }
 
-/// Writes which nodes walks reach from a node, or from which nodes they reach it, within a limit, in the network of a `.gr` text, and nothing
-/// else: `v 0`, then for each of them one line `d S T LENGTH` with the least length of a walk from S to T, ascending by the node; without a limit all nodes
-/// that have such a walk. The node itself is one of them, with 0. A node that is none of the network's is told as `no 24`. The text is read whole before
-/// anything is written.
+/// Writes which nodes walks reach from a node, or from which nodes they reach it, within a limit, in the network of a `.gr` text, and nothing else: `v 0`,
+/// then for each of them a line `d S T LENGTH` with the least length of a walk from S to T, ascending by node. Without a limit it is all nodes that have
+/// such a walk. The node itself is one of them, with 0. A number that is not a node's is answered with `no 24`. The text is read completely before anything
+/// is written.
 ///
-/// `delta` is the width of a search's buckets, 1 to 2147483647: every width gives the same answer; without one it is the network's default. The search
-/// ends beyond the limit, and is made by a crew of the runtime's threads; walks to a node are searched over the arcs turned round. Where no memory is there
-/// for the nodes the call is refused with 11 and nothing is written. A failed read is fault 10 of the line being read, and a failed write is 12: both are
-/// told only where the count of the text's or writer's failed calls rose. After an `Err` text and writer are not used again.
+/// `delta` is the width of a search's buckets, 1 to 2147483647. Every width gives the same answer. Without one it is the network's default. The search ends
+/// beyond the limit, and is made by a crew of the runtime's threads; walks to a node are searched over the arcs turned round. If there is no memory for the
+/// nodes, the call is refused with 11 and nothing is written. A failed read is fault 10 of the line being read, and a failed write is 12. Both are reported
+/// only if the count of failed calls of the text or of the writer rose. After an `Err` the text and the writer are not used again.
 ///
 /// In the network of `examples/six.gr`, from 1 within 10 it gives `v 0 / d 1 1 0 / d 1 2 10 / d 1 3 10 / d 1 5 10`, where `/` is a line feed, and to 4
 /// within 0 it gives `v 0 / d 4 4 0`.

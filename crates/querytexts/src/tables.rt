@@ -25,7 +25,7 @@ const SOURCES: u8 = 1;
 
 const TARGETS: u8 = 2;
 
-/// Adds the pairs of a source with each target. The one error is want of memory.
+/// Adds the pairs of a source with each target. The only error is lack of memory.
 fn add_row(pairs: &mut Vec<Pair>, source: u32, targets: &[u32]) -> Result<(), OutOfMemory>
     ensures { OnOk result (pairs.new.items ≡ pairs.old.items ++ pairs_from source targets.now) }
 {
@@ -37,7 +37,7 @@ fn add_row(pairs: &mut Vec<Pair>, source: u32, targets: &[u32]) -> Result<(), Ou
     Ok(())
 }
 
-/// The pairs of each source with each target, source by source. The one error is want of memory, for 8 bytes a pair.
+/// The pairs of each source with each target, source by source. The only error is lack of memory, for 8 bytes a pair.
 fn pairs_between(alloc: Global, sources: &[u32], targets: &[u32]) -> Result<Vec<Pair>, OutOfMemory>
     ensures { IfOk result (λ pairs. pairs.items ≡ pairs_between sources.now targets.now) }
 {
@@ -49,10 +49,10 @@ fn pairs_between(alloc: Global, sources: &[u32], targets: &[u32]) -> Result<Vec<
     Ok(pairs)
 }
 
-/// Writes the network's version and a right answer to each pair of a source and a target, source by source, and sends them out; or nothing, where no
-/// memory is there for all replies (11). A failed write is 12, and then an unknown part was written.
+/// Writes the network's version and a right answer to each pair of a source and a target, source by source, and sends them; or nothing, if there is no
+/// memory for all replies (11). A failed write is 12; then an unknown part was written.
 ///
-/// It is `answer_pairs` of these pairs: so each source is searched once, or each target, where these are fewer, and a pair takes 28 bytes.
+/// It is `answer_pairs` for these pairs: so each source is searched once, or each target if there are fewer targets, and a pair takes 28 bytes.
 pub fn answer_table<T: Threads, W: Write>(
     rt: &T,
     alloc: Global,
@@ -73,15 +73,15 @@ pub fn answer_table<T: Threads, W: Write>(
     answer_pairs(rt, alloc, network, version, delta, &pairs, out)
 }
 
-/// Writes the answer to each pair of a node that one `.ss` text lists and one that another lists, in the network of a `.gr` text, and nothing else:
-/// `v 0`, then one line a pair, source by source, in the order of the lines of the two texts. A node that stands on several
-/// lines is answered as often. The texts are read whole before anything is written, the network first, then the sources, then the targets, and the first
-/// fault decides: `which` is 0 for the network, 1 for the sources and 2 for the targets. Nodes are judged by the network's number of nodes.
+/// Writes the answer to each pair of a node that one `.ss` text lists and one that another lists, in the network of a `.gr` text, and nothing else: `v 0`,
+/// then one line for each pair, source by source, in the order of the lines of the two texts. A node that is listed several times is answered as often. The
+/// texts are read completely before anything is written, the network first, then the sources, then the targets, and the first fault is the one reported:
+/// `which` is 0 for the network, 1 for the sources and 2 for the targets. Nodes are judged by the network's number of nodes.
 ///
-/// `delta` is the width of a search's buckets, 1 to 2147483647: every width gives the same answers; without one it is
-/// the network's default. Each source is searched once, or each target, where these are fewer, as `answer_table` does it. Where no memory is there for all
-/// replies the call is refused with 11 and nothing is written. A failed read is fault 10 of the text and line being read, and a failed write is 12: both
-/// are told only where the count of that text's or the writer's failed calls rose. After an `Err` texts and writer are not used again.
+/// `delta` is the width of a search's buckets, 1 to 2147483647. Every width gives the same answers. Without one it is the network's default. Each source is
+/// searched once, or each target if there are fewer targets, as by `answer_table`. If there is no memory for all replies, the call is refused with 11 and
+/// nothing is written. A failed read is fault 10 of the text and line being read, and a failed write is 12. Both are reported only if the count of failed
+/// calls of that text or of the writer rose. After an `Err` the texts and the writer are not used again.
 ///
 /// In the network of `examples/six.gr`, the sources 1 and 5 with the targets 4 and 6 give `v 0 / d 1 4 12 / d 1 6 15 / d 5 4 2 / d 5 6 5`, where `/` is a
 /// line feed.

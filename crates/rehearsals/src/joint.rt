@@ -35,7 +35,7 @@ struct Joint {
     events: Vec<Event<Pick>>,
 }
 
-/// The network before the first line `run`, and the events behind it.
+/// The network before the first line `run`, and the events after it.
 fn read_joint<R: BufRead>(alloc: Global, reader: &mut Counted<'_, R>) -> Result<Joint, Failed>
     ensures read { IfSome (R.remaining (reader_of reader.old))
         (λ text. ReadsJoint text (R.remaining (reader_of reader.new)) result) }
@@ -53,15 +53,14 @@ fn read_joint<R: BufRead>(alloc: Global, reader: &mut Counted<'_, R>) -> Result<
     Ok(Joint { network, events })
 }
 
-/// Reads a joint text, runs the events of its script on a new store of its network, in memory and with 64 journal pages, and writes the
-/// lines of the replies, and nothing else. Both texts are read whole before anything is run or written; the first fault decides. Without
-/// a line `run` the script is empty.
+/// Reads a joint text, runs the events of its script on a new store of its network, in memory and with 64 journal pages, and writes the lines of the
+/// replies, and nothing else. Both texts are read completely before anything is run or written. The first fault is the one reported. Without a line `run`
+/// the script is empty.
 ///
-/// `delta`, 1 to 2147483647, is the width of the buckets of each view's searches: every width gives the same answers; without one it is
-/// the network's default. An event that finds no memory is answered with `no 11`. Where the store cannot be made (11, or 43 where memory
-/// is wanting in the disk), nothing is written; where the run ends early (11 or 43), the replies so far are. A failed read is fault 10 of
-/// the text and line being read, and a failed write is 12: both are told only where the count of the reader's or writer's failed calls
-/// rose. After an `Err` reader and writer are not used again.
+/// `delta`, 1 to 2147483647, is the width of the buckets of each view's searches. Every width gives the same answers. Without one it is the network's
+/// default. An event that finds no memory is answered with `no 11`. If the store cannot be made (11, or 43 if the disk has no memory), nothing is written.
+/// If the run ends early (11 or 43), the replies so far are written. A failed read is fault 10 of the text and line being read, and a failed write is 12.
+/// Both are reported only if the count of failed calls of the reader or of the writer rose. After an `Err` the reader and the writer are not used again.
 pub fn joint_text<T: Threads, R: BufRead, W: Write>(
     rt: &T,
     alloc: Global,

@@ -26,7 +26,7 @@ const NETWORK: u8 = 0;
 
 const SCRIPT: u8 = 1;
 
-/// The network with the room that is given, if one is. Refused (9) is a room that is none for it.
+/// The network with the given room, if one is given. It fails with 9 if the room does not suit the network.
 fn roomed(network: Network, room: Option<u64>) -> Result<Network, Failed>
     ensures ok { IfOk result (λ net. net ≡ roomed network room) }
     ensures refused { IfErr result (λ failed. (failed ≡ Failed.Code Refusal.TooLarge) × ¬ IsRoomFor network (room_of network room)) }
@@ -37,15 +37,15 @@ fn roomed(network: Network, room: Option<u64>) -> Result<Network, Failed>
     }
 }
 
-/// Runs the events of a script on a new store, in memory, of the network of a `.gr` text, and writes the lines of the replies, and nothing
-/// else. Both texts are read whole before anything is run or written, the network first, and the first fault decides.
+/// Runs the events of a script on a new store, in memory, of the network of a `.gr` text, and writes the lines of the replies, and nothing else. Both texts
+/// are read completely before anything is run or written, the network first. The first fault is the one reported.
 ///
-/// The store has `journal_pages` pages in its journal, 1 to 65,536, and room for `room` arcs; without one, for those that there are. A room below
-/// the number of arcs or above 67,108,864 is refused with 9 behind the texts' faults, and nothing is run. `delta`, 1 to 2147483647, is the width of the buckets of each view's
-/// searches: every width gives the same answers; without one it is the network's default. An event that finds no memory is answered with
-/// `no 11`. Where the store cannot be made (11, or 43 where memory is wanting in the disk), nothing is written; where the run ends early
-/// (11 or 43), the replies so far are. A failed read is fault 10 of the text and line being read, and a failed write is 12: both are told
-/// only where the count of that text's or the writer's failed calls rose. After an `Err` texts and writer are not used again.
+/// The store has `journal_pages` pages in its journal, 1 to 65,536, and room for `room` arcs; without a room, for those that there are. After the texts'
+/// faults, a room below the number of arcs or above 67,108,864 is refused with 9, and nothing is run. `delta`, 1 to 2147483647, is the width of the buckets
+/// of each view's searches. Every width gives the same answers. Without one it is the network's default. An event that finds no memory is answered with `no
+/// 11`. If the store cannot be made (11, or 43 if the disk has no memory), nothing is written. If the run ends early (11 or 43), the replies so far are
+/// written. A failed read is fault 10 of the text and line being read, and a failed write is 12. Both are reported only if the count of failed calls of
+/// that text or of the writer rose. After an `Err` the texts and the writer are not used again.
 pub fn rehearse_text<T: Threads, N: Text, S: Text, W: Write>(
     rt: &T,
     alloc: Global,

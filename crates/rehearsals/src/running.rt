@@ -1,4 +1,4 @@
-//! Events run on a new store, and what is told of them.
+//! Events run on a new store, and the replies to them.
 ghost use Rattle.std.specs.Prelude.{◌≡◌, ◌≤◌, [], OnOk, IfOk, IfErr, IfSome};
 ghost use Rattle.std.specs.Option.{ForSome};
 ghost use Rattle.disk.specs.Contents.{Rose};
@@ -23,8 +23,8 @@ use std::io::Write;
 use std::thread::Threads;
 use store::create;
 
-/// Runs the events on a new store of the network on an empty disk, with so many journal pages. Without a store nothing is run, and the disk
-/// is handed back: where it keeps the disk model, only want of memory (11) or its failure (43) can keep a store from being made on it.
+/// Runs the events on a new store of the network on an empty disk, with so many journal pages. If there is no store, nothing is run, and the disk is handed
+/// back. If the disk keeps the disk model, only lack of memory (11) or its failure (43) can keep a store from being made on it.
 fn rehearsed<T: Threads, D: Stoppable>(
     rt: &T,
     alloc: Global,
@@ -41,7 +41,7 @@ fn rehearsed<T: Threads, D: Stoppable>(
     ensures ended { D.honest disk → IfOk result (λ run. IfSome run.ended IsPassing) }
     ensures width { IfOk result (λ run. width_of run ≡ delta) }
     ensures refused { D.honest disk → D.content disk ≡ [] → IfErr result (λ refused. IsPassing refused.0) }
-    // Over any disk its count of failures rises by those that the replies tell, and by one more where the run ends with 43.
+    // On any disk its count of failures rises by those that the replies report, and by one more if the run ends with 43.
     ensures counted { IfOk result (λ run. EndsAsTold events.now run.replies.items run.ended (D.failures disk) (D.failures run.disk)) }
     ensures unmade { IfErr result (λ refused. D.failures refused.1 ≡ failures_with refused.0 (D.failures disk)) }
 {
@@ -49,9 +49,9 @@ fn rehearsed<T: Threads, D: Stoppable>(
     Ok(rehearse(rt, alloc, store, delta, events))
 }
 
-/// Runs the events on a new store of the network on an empty disk, with so many journal pages, and writes the lines of the replies to them,
-/// and nothing else. Where the run ends early, the replies so far are written, and its refusal is the answer: 11 or 43. A failed write is
-/// 12, and then an unknown part was written. 43 is told only where the disk's count of failures rose. The disk is handed back.
+/// Runs the events on a new store of the network on an empty disk, with so many journal pages, and writes the lines of the replies to them, and nothing
+/// else. If the run ends early, the replies so far are written, and its refusal is returned: 11 or 43. A failed write is 12; then an unknown part was
+/// written. 43 is reported only if the disk's count of failures rose. The disk is handed back.
 fn run_events_on<T: Threads, D: Stoppable, W: Write>(
     rt: &T,
     alloc: Global,
@@ -98,7 +98,7 @@ fn run_events_on<T: Threads, D: Stoppable, W: Write>(
     }
 }
 
-/// The same on an empty disk in memory, which is the call's own: it keeps the disk model, and nothing is said of it afterwards.
+/// The same on an empty disk in memory, which belongs to the call. It keeps the disk model, and nothing is said of it afterwards.
 pub fn run_events<T: Threads, W: Write>(
     rt: &T,
     alloc: Global,

@@ -1,7 +1,6 @@
 //! A crash-safe landmark distance server for road networks.
 //!
-//! With no words the program reads the joint form from standard input: a `.gr` text, a line `run`, and a script. Its words name jobs on
-//! files.
+//! Without words the program reads the joint form from standard input: a `.gr` text, a line `run`, and a script. Its words name jobs on files.
 #![tactic(auto)]
 
 use program::run_program;

@@ -5,7 +5,7 @@ pub struct RoadArc {
     pub tail: u32,
     /// The node that it reaches, counted from 1.
     pub head: u32,
-    /// Its length, 0 to 2147483647, kept while the arc is closed.
+    /// Its length, 0 to 2147483647. A closed arc keeps it.
     pub length: u32,
     /// Whether walks may take it.
     pub opened: bool,

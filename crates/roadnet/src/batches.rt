@@ -23,7 +23,7 @@ use std::array::from_ref;
 use std::marker::Model;
 use std::mem::replace;
 
-/// Puts in or takes out the landmark that the command names, if it names one.
+/// Adds or removes a landmark for each command that names one, in the order of the commands.
 fn change_landmarks(landmarks: &mut Vec<u32>, command: &Command) -> Result<(), AllocError>
     requires ascending { IsStrictlyIncreasing landmarks.old.items }
     requires fits { HasFitNumbers command.now }
@@ -44,7 +44,7 @@ fn change_landmarks(landmarks: &mut Vec<u32>, command: &Command) -> Result<(), A
     Ok(())
 }
 
-/// Does so for commands, the first one first.
+/// Applies the changes of landmarks that commands make, the first command first.
 fn change_landmarks_by(landmarks: &mut Vec<u32>, commands: &[Command]) -> Result<(), AllocError>
     requires ascending { IsStrictlyIncreasing landmarks.old.items }
     requires fits { All HasFitNumbers commands.now }
@@ -74,7 +74,7 @@ pub fn landmarks_after(
     Ok(found)
 }
 
-/// Whether the groups name no node, so that they leave the landmarks as they are.
+/// Whether the groups name no node, so that the landmarks do not change.
 fn name_no_node(groups: &[Group]) -> bool
     ensures { result ≡ true → (landmarks : List ℕ) → fold changed_landmarks landmarks (commands_of groups.now) ≡ landmarks }
 {
@@ -86,11 +86,11 @@ fn name_no_node(groups: &[Group]) -> bool
     true
 }
 
-/// What takes groups back that a network carried out.
+/// What is needed to undo groups that a network carried out.
 #[derive(Debug, Drop)]
 pub struct Undo {
     arcs: Vec<Earlier>,
-    /// The landmarks as they were, where the groups name a node.
+    /// The earlier landmarks, if the groups name a node.
     landmarks: Option<Vec<u32>>,
 }
 
@@ -104,13 +104,13 @@ impl Model for Undo {
 }
 
 impl Network {
-    /// Whether the groups may be carried out one after another, and else the refusal of the first command that is not admitted after
-    /// those before it. It takes no memory, whatever the network's size.
+    /// Whether the groups may be carried out one after another. Otherwise the refusal of the first command that is not admitted after those before it. This
+    /// takes no memory, whatever the network's size.
     ///
     /// Each command is judged by the network as it is and by the commands before it: n commands cost O(n^2) comparisons.
     ///
-    /// Where arc 7 is open, `Close { arc: 7 }` and then `Reopen { arc: 7 }` are admitted; `Close { arc: 7 }` twice is `AlreadyClosed`. An
-    /// arc that is laid may be closed behind that.
+    /// If arc 7 is open, `Close { arc: 7 }` and then `Reopen { arc: 7 }` are admitted; `Close { arc: 7 }` twice is `AlreadyClosed`. A command may close an
+    /// arc that an earlier one laid.
     pub fn admit_groups(&self, groups: &[Group]) -> Result<(), Refusal>
         ensures { IsVerdict (first_refusal_of_all self.now groups.now) result }
     {
@@ -118,11 +118,11 @@ impl Network {
         admit_all(self, groups)
     }
 
-    /// Carries the groups out, all of them or none, and answers what takes them back.
+    /// Carries the groups out, all of them or none, and returns what is needed to undo them.
     ///
-    /// Refused is the first command that is not admitted after those before it, with its refusal; and, where each is admitted, want of
-    /// memory (11). After a refusal the network is as it was. An arc is changed in its place; memory is taken for a list of landmarks
-    /// where a command names one, 24 bytes a command that names an arc, and what arcs that are laid need.
+    /// It fails with the refusal of the first command that is not admitted after those before it; or, if all are admitted, for lack of memory (11). After a
+    /// refusal the network is as it was. An arc is changed in place. The call takes memory for a list of landmarks if a command names one, 24 bytes for
+    /// each command that names an arc, and what new arcs need.
     pub fn carry_out(&mut self, groups: &[Group]) -> Result<Undo, Refusal>
         ensures ok { OnOk result (after self.old groups.now ≡ Some self.new) }
         ensures admitted { OnOk result (first_refusal_of_all self.old groups.now ≡ None) }
@@ -161,7 +161,7 @@ impl Network {
         })
     }
 
-    /// Takes groups back that were carried out last. It takes no memory and can't fail.
+    /// Undoes the groups that were carried out last. It takes no memory and cannot fail.
     pub fn take_back(&mut self, undo: Undo)
         requires { IsNetwork (undone undo self.old) }
         ensures { self.new ≡ undone undo self.old }
@@ -172,8 +172,8 @@ impl Network {
         }
     }
 
-    /// Carries the group out, all of it or nothing. Refused is its first command that is not admitted after those before it, with its
-    /// refusal; and, where each is admitted, want of memory (11). After a refusal the network is as it was.
+    /// Carries the group out, all of it or nothing. It fails with the refusal of the first command that is not admitted after those before it; or, if all
+    /// are admitted, for lack of memory (11). After a refusal the network is as it was.
     ///
     /// In the network of `examples/six.gr`, `Close { arc: 7 }` and `Set { arc: 8, length: 4 }` are one step; `Reopen { arc: 7 }` twice
     /// is then `AlreadyOpen`, and arc 7 stays closed.
@@ -181,7 +181,7 @@ impl Network {
         ensures ok { OnOk result (step_group self.old group.now ≡ Some self.new) }
         ensures err { OnErr result (self.new ≡ self.old) }
         ensures refused { IfErr result (MayRefuseBatch self.old group.now) }
-        // A group of one takes memory just where `apply` does.
+        // A group of one takes memory exactly when `apply` does.
         ensures memory { IfErr result (λ refusal. refusal ≡ out_of_memory → TakeMemory group.now) }
     {
         if let &[command] = group.commands() {

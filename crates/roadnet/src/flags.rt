@@ -1,4 +1,4 @@
-// For each arc whether it is open, changed by commands that are admitted; and the changes taken back.
+// For each arc whether it is open: changed by admitted commands, and changed back.
 
 ghost use Rattle.std.specs.Prelude.{◌≡◌, ℕ, List, true, OnOk, OnErr, fold};
 ghost use Rattle.roadnet.specs.Net.{update_nth};
@@ -21,7 +21,7 @@ fn set_flag(flags: &mut [bool], k: u64, opened: bool)
     flags[(k - 1) as usize] = opened;
 }
 
-/// Changes the flag of the arc that the command names, or adds one. It takes memory for an arc that is laid.
+/// Changes the flag of the arc that the command names, or adds a flag. It takes memory for a new arc.
 fn change_flag(flags: &mut Vec<bool>, command: &Command) -> Result<(), AllocError>
     ensures ok { OnOk result (flags.new.items ≡ changed_flags flags.old.items command.now) }
     ensures err { OnErr result (flags.new.items ≡ flags.old.items) }
@@ -41,7 +41,7 @@ fn change_flag(flags: &mut Vec<bool>, command: &Command) -> Result<(), AllocErro
     Ok(())
 }
 
-/// Takes the change of one admitted command back.
+/// Undoes the change of one admitted command.
 fn restore_flag(flags: &mut Vec<bool>, command: &Command)
     ensures { flags.new.items ≡ flag_before flags.old.items command.now }
 {
@@ -61,7 +61,7 @@ fn restore_flag(flags: &mut Vec<bool>, command: &Command)
     }
 }
 
-/// Takes the changes of admitted commands back, the last one first.
+/// Undoes the changes of admitted commands, the last one first.
 pub fn restore_flags(flags: &mut Vec<bool>, commands: &[Command])
     ensures { flags.new.items ≡ flags_before flags.old.items commands.now }
 {
@@ -72,7 +72,7 @@ pub fn restore_flags(flags: &mut Vec<bool>, commands: &[Command])
     }
 }
 
-/// Changes the flags by admitted commands, the first one first; all of them or none.
+/// Changes the flags by admitted commands, the first one first: all of them or none.
 pub fn change_flags(flags: &mut Vec<bool>, commands: &[Command]) -> Result<(), AllocError>
     requires { AreFlagsOfAdmitting flags.old.items commands.now }
     ensures ok { OnOk result (flags.new.items ≡ fold changed_flags flags.old.items commands.now) }
@@ -88,7 +88,7 @@ pub fn change_flags(flags: &mut Vec<bool>, commands: &[Command]) -> Result<(), A
     Ok(())
 }
 
-/// Whether the commands name no node, so that they leave the landmarks as they are.
+/// Whether the commands name no node, so that the landmarks do not change.
 pub fn names_no_node(commands: &[Command]) -> bool
     ensures { result ≡ true → (landmarks : List ℕ) → fold changed_landmarks landmarks commands.now ≡ landmarks }
 {

@@ -6,17 +6,17 @@ use crate::refusals::{OutOfMemory, Refusal};
 use std::array::from_ref;
 use std::marker::Model;
 
-/// How many commands a group has at most.
+/// The greatest number of commands in a group.
 pub const MOST_OF_GROUP: usize = 253;
 
-/// What a group holds its commands in.
+/// How a group holds its commands.
 #[derive(Debug, Drop)]
 enum Held {
     One(Command),
     Many(Vec<Command>),
 }
 
-/// A group of 1 to 253 commands, all of which are carried out or none: the step from one version to the next.
+/// A group of 1 to 253 commands, which are carried out together or not at all: the step from one version to the next.
 ///
 /// A group of one command takes no memory of its own.
 #[derive(Debug, Drop)]
@@ -41,7 +41,7 @@ impl Model for Group {
 impl Group {
     ghost use Rattle.roadnet.specs.Groups.{IsGroup};
 
-    /// The group of these commands, in this order. Refused (13) where there is none, or where there are more than 253.
+    /// The group of these commands, in this order. It fails with 13 if there is none, or if there are more than 253.
     pub fn new(commands: Vec<Command>) -> Result<Group, Refusal>
         ensures group { IfOk result (λ group. group ≡ commands.items) }
         ensures size { MatchResult result (λ _. IsGroup commands.items) (λ refusal. (refusal ≡ group_size) × ¬ IsGroup commands.items) }
@@ -63,7 +63,7 @@ impl Group {
         }
     }
 
-    /// The commands, in order: 1 to 253.
+    /// The 1 to 253 commands, in their order.
     pub fn commands(&self) -> &[Command]
         ensures value { result.now ≡ self.now }
         ensures group { IsGroup self.now }
@@ -74,7 +74,7 @@ impl Group {
         }
     }
 
-    /// A group equal to this one. One command alone takes no memory.
+    /// A copy of this group. A group of one command takes no memory.
     pub fn copy(&self) -> Result<Group, OutOfMemory>
         ensures same { IfOk result (λ copy. copy ≡ self.now) }
         ensures few { OnErr result (2 ≤ length self.now) }

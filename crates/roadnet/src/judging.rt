@@ -1,4 +1,4 @@
-// The rules by which commands are judged, once it is known what the network has of the arc or the node that a command names.
+// The rules by which commands are judged, given what the network says of the arc or the node that a command names.
 
 ghost use Rattle.std.specs.Prelude.{◌≡◌, ◌&&◌, ℕ, length};
 ghost use Rattle.roadnet.specs.declared.commands.Command.TheVariants.{Set as set, Close as close, Reopen as reopen, Mark as mark, Unmark as unmark, Lay as lay};
@@ -45,7 +45,7 @@ pub fn judge_reopen(opened: Option<bool>) -> Result<(), Refusal>
     }
 }
 
-/// Whether a number's node may become a landmark, of which there are `count`.
+/// Whether the node of a number may become a landmark, if there are `count` landmarks.
 pub fn judge_mark(there: bool, marked: bool, count: u64) -> Result<(), Refusal>
     ensures { (net : Net) (x : ℕ) → is_node net x ≡ there → is_landmark net x ≡ marked → length net.landmarks ≡ count → IsVerdict (refusal_of net (mark x)) result }
 {
@@ -61,7 +61,7 @@ pub fn judge_mark(there: bool, marked: bool, count: u64) -> Result<(), Refusal>
     Ok(())
 }
 
-/// Whether a number's node may cease to be a landmark.
+/// Whether the node of a number may stop being a landmark.
 pub fn judge_unmark(there: bool, marked: bool) -> Result<(), Refusal>
     ensures { (net : Net) (x : ℕ) → is_node net x ≡ there → is_landmark net x ≡ marked → IsVerdict (refusal_of net (unmark x)) result }
 {
@@ -74,7 +74,7 @@ pub fn judge_unmark(there: bool, marked: bool) -> Result<(), Refusal>
     Ok(())
 }
 
-/// Whether an arc of this length may be laid between two numbers, where there are `count` arcs. `there` says whether both are nodes.
+/// Whether an arc of this length may be laid between two numbers, if there are `count` arcs. `there` says whether both are nodes.
 pub fn judge_lay(there: bool, count: u64, room: u64, span: u64) -> Result<(), Refusal>
     ensures { (net : Net) (t h : ℕ) → (is_node net t && is_node net h) ≡ there → length net.arcs ≡ count → net.room ≡ room → IsVerdict (refusal_of net (lay t h span)) result }
 {

@@ -28,13 +28,13 @@ pub fn laws_of_batches()
     ensures all_fit { AllAdmittedFit }
 {}
 
-/// What holds of refusals: of several that apply the one of lowest number is answered.
+/// What holds of refusals: if several apply, the one of the lowest number is given.
 pub fn laws_of_refusals()
     ensures commands { RefusalIsLowest }
     ensures parts { FlawIsLowest }
 {}
 
-/// What holds of walks and least distances, in any network.
+/// What holds of walks and shortest distances, in any network.
 pub fn laws_of_walks()
     ensures joined { WalksJoin }
     ensures one_least { LeastIsOne }

@@ -23,7 +23,7 @@ pub const LONGEST_ARC: u32 = 2147483647;
 /// The most landmarks that a network may have.
 pub const MOST_LANDMARKS: usize = 1000;
 
-/// A road network: its nodes are 1 to n, its arcs are named by their numbers from 1 on, and some nodes are landmarks.
+/// A road network: its nodes are 1 to n, its arcs are numbered from 1 on, and some nodes are landmarks.
 ///
 /// It takes 16 bytes an arc and 4 a landmark.
 #[derive(Debug, Drop)]
@@ -68,14 +68,14 @@ fn is_stray(nodes: u32, arc: &RoadArc) -> bool
     !(is_node_among(nodes, arc.tail) && is_node_among(nodes, arc.head))
 }
 
-/// What is wrong with arcs.
+/// What is wrong with some arcs.
 #[derive(Clone, Copy)]
 struct ArcFaults {
     long: bool,
     stray: bool,
 }
 
-/// Whether some arc is too long, and whether some end is no node.
+/// Whether some arc is too long, and whether some end is not a node.
 fn arc_faults(nodes: u32, arcs: &[RoadArc]) -> ArcFaults
     ensures long { result.long ≡ has_long_arc arcs.now }
     ensures stray { result.stray ≡ has_stray_end nodes arcs.now }
@@ -101,15 +101,15 @@ impl Network {
     ghost use Rattle.roadnet.specs.Step.{is_node, is_landmark, refusal_of, step, MayRefuse};
     ghost use Rattle.roadnet.specs.Batches.{opened_at};
 
-    /// A network of the nodes 1 to `nodes`, of these arcs in the order of their numbers, open or closed as they are given, and of
-    /// these landmarks, of which doubles count once.
+    /// A network of the nodes 1 to `nodes`, of these arcs in the order of their numbers, open or closed as given, and of these landmarks; one that is
+    /// listed twice counts once.
     ///
-    /// Refused, lowest number first, are a count of nodes that is not 1 to 33,554,432 (5), too many arcs (9), a length above
-    /// 2147483647 (21), an end of an arc or a landmark that is no node (24), more than 1,000 landmarks (27); and, where none of the
-    /// first four holds and a landmark is given, want of memory for the landmarks (11).
+    /// It is refused, lowest number first, for a count of nodes that is not 1 to 33,554,432 (5), too many arcs (9), a length above 2147483647 (21), an end
+    /// of an arc or a landmark that is not a node (24), or more than 1,000 landmarks (27). If none of the first four holds and a landmark is given, it may
+    /// also fail for lack of memory for the landmarks (11).
     ///
-    /// With six nodes and the arcs of `examples/six.gr`, the landmarks 6, 3 and 6 make a network with the landmarks 3 and 6; the landmark 7 is
-    /// refused with `NoSuchNode`, and so is an arc from 1 to 7.
+    /// With six nodes and the arcs of `examples/six.gr`, the landmarks 6, 3 and 6 make a network with the landmarks 3 and 6. The landmark 7 is refused with
+    /// `NoSuchNode`, and so is an arc from 1 to 7.
     pub fn new(
         alloc: Global,
         nodes: u32,
@@ -143,10 +143,10 @@ impl Network {
         })
     }
 
-    /// The network with room for so many arcs, which `Lay` may fill. It takes no memory. Refused (9), with the network as it was, where
-    /// there are more arcs than that, or where it is above 67,108,864.
+    /// The network with room for this many arcs, which `Lay` may fill. It takes no memory. It fails with 9, and returns the network as it was, if there are
+    /// more arcs than that, or if the room is above 67,108,864.
     ///
-    /// `examples/six.gr` has 8 arcs and room for 8; with room for 10 two arcs may be laid.
+    /// `examples/six.gr` has 8 arcs and room for 8. With room for 10, two arcs may be laid.
     pub fn with_room(self, room: u64) -> Result<Network, (Refusal, Network)>
         ensures ok { IfOk result (λ net. net ≡ record self { room = room }) }
         ensures fits { OnOk result (IsRoomFor self room) }
@@ -163,7 +163,7 @@ impl Network {
         })
     }
 
-    /// For how many arcs the network has room.
+    /// How many arcs the network has room for.
     pub fn room(&self) -> u32
         ensures value { result ≡ self.now.room }
         ensures network { IsNetwork self.now }
@@ -171,7 +171,7 @@ impl Network {
         self.room
     }
 
-    /// The number of nodes: they are numbered from 1 on.
+    /// The number of nodes. They are numbered from 1 on.
     pub fn nodes(&self) -> u32
         ensures value { result ≡ self.now.nodes }
         ensures network { IsNetwork self.now }
@@ -179,7 +179,7 @@ impl Network {
         self.nodes
     }
 
-    /// The arcs in the order of their numbers: arc k stands at place k - 1.
+    /// The arcs in the order of their numbers: arc k is at place k - 1.
     pub fn arcs(&self) -> &[RoadArc]
         ensures value { result.now ≡ self.now.arcs }
         ensures network { IsNetwork self.now }
@@ -187,7 +187,7 @@ impl Network {
         &self.arcs
     }
 
-    /// The landmarks, ascending.
+    /// The landmarks, in ascending order.
     pub fn landmarks(&self) -> &[u32]
         ensures value { result.now ≡ self.now.landmarks }
         ensures network { IsNetwork self.now }
@@ -223,7 +223,7 @@ impl Network {
 
     /// The arc of number `k`, if there is one.
     ///
-    /// Of `examples/six.gr`, 7 gives the arc from 5 to 2 of length 0; 0 and 9 give nothing.
+    /// In `examples/six.gr`, 7 gives the arc from 5 to 2 of length 0, and 0 and 9 give nothing.
     pub fn arc(&self, k: u64) -> Option<RoadArc>
         ensures { result ≡ arc_at self.now k }
     {
@@ -243,7 +243,7 @@ impl Network {
         }
     }
 
-    /// Whether the command may be carried out, and else the lowest refusal that applies. It takes no memory.
+    /// Whether the command may be carried out, or otherwise the lowest refusal that applies. It takes no memory.
     ///
     /// In the network of `examples/six.gr`, whose arcs are open, `Close { arc: 7 }` is admitted, `Reopen { arc: 7 }` is `AlreadyOpen` and
     /// `Mark { node: 7 }` is `NoSuchNode`. `Set { arc: 9, length: 2147483648 }` is `NoSuchArc`, the lower of the two that apply.
@@ -267,7 +267,7 @@ impl Network {
         }
     }
 
-    /// A network equal to this one, from the same allocator.
+    /// A copy of this network, from the same allocator.
     pub fn copy(&self) -> Result<Network, OutOfMemory>
         ensures same { IfOk result (λ copy. copy ≡ self.now) }
         ensures network { IfOk result IsNetwork }
@@ -281,10 +281,10 @@ impl Network {
         })
     }
 
-    /// Carries the command out where it is admitted. Only `Mark` and `Lay` take memory, and may be refused for want of it (11). After a
-    /// refusal the network is as it was.
+    /// Carries the command out if it is admitted. Only `Mark` and `Lay` take memory, and may fail for lack of it (11). After a refusal the network is as it
+    /// was.
     ///
-    /// An arc is changed in O(1), the landmarks by a binary search and one shift.
+    /// A change of an arc takes O(1), one of the landmarks a binary search and one shift.
     ///
     /// `Close { arc: 7 }` closes arc 7 of `examples/six.gr`; a second one is `AlreadyClosed`.
     pub fn apply(&mut self, command: Command) -> Result<(), Refusal>

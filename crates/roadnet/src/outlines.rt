@@ -1,4 +1,4 @@
-// What of a network its commands are judged by.
+// The part of a network by which commands are judged.
 
 ghost use Rattle.std.specs.Prelude.{◌≡◌, IfOk, OnOk, OnErr, IfErr, IfSome, IfNone, map};
 ghost use Rattle.roadnet.specs.Net.{nth};
@@ -22,8 +22,8 @@ use std::array::from_ref;
 use std::marker::Model;
 use std::mem::replace;
 
-/// The outline of a network: which arcs there are, which of them are open, and the landmarks. That is all that commands are judged by,
-/// so an outline admits what each network that has it admits. The ends and the lengths of the arcs are left out.
+/// The outline of a network: which arcs there are, which of them are open, and the landmarks. Commands are judged by nothing else, so an outline admits
+/// what every network with this outline admits. It has no ends and no lengths of arcs.
 ///
 /// It takes 1 byte an arc and 4 a landmark.
 #[derive(Debug, Drop)]
@@ -44,7 +44,7 @@ impl Model for Outline {
     ghost invariant = { λ o. IsOutline (record { nodes = o.nodes; opened = o.opened.items; landmarks = o.landmarks.items; room = o.room }) };
 }
 
-/// For each arc whether it is open.
+/// For each arc, whether it is open.
 fn opened_flags(alloc: Global, arcs: &[RoadArc]) -> Result<Vec<bool>, AllocError>
     ensures { IfOk result (λ flags. flags.items ≡ map (λ arc. arc.opened) arcs.now) }
 {
@@ -99,7 +99,7 @@ impl Outline {
         Some(self.opened[(k - 1) as usize])
     }
 
-    /// Whether the command may be carried out, and else the lowest refusal that applies. It takes no memory.
+    /// Whether the command may be carried out, or otherwise the lowest refusal that applies. It takes no memory.
     pub fn admit(&self, command: &Command) -> Result<(), Refusal>
         ensures { OfEach self.now (λ net. IsVerdict (refusal_of net command.now) result) }
     {
@@ -120,8 +120,7 @@ impl Outline {
         }
     }
 
-    /// Whether the group may be carried out, and else the refusal of its first command that is not admitted after those before it. It
-    /// takes no memory.
+    /// Whether the group may be carried out, or otherwise the refusal of its first command that is not admitted after those before it. It takes no memory.
     pub fn admit_group(&self, group: &Group) -> Result<(), Refusal>
         ensures { OfEach self.now (λ net. IsVerdict (first_refusal net group.now) result) }
     {
@@ -129,8 +128,8 @@ impl Outline {
         admit_one(self, &[], group.commands())
     }
 
-    /// Carries an admitted group out, all of it or nothing. Answers the landmarks as they were, where the group names some. It takes
-    /// memory for arcs that are laid, and for a copy of the landmarks where the group names one. After a refusal the outline is as it was.
+    /// Carries an admitted group out, all of it or nothing. Returns the earlier landmarks if the group names some. It takes memory for new arcs, and for a
+    /// copy of the landmarks if the group names one. After a refusal the outline is as it was.
     pub fn carry_out(&mut self, group: &Group) -> Result<Option<Vec<u32>>, OutOfMemory>
         requires admitted { EachAdmitsGroup self.old group.now }
         ensures ok { OnOk result (EachStepsByGroup self.old group.now self.new) }
@@ -148,7 +147,7 @@ impl Outline {
         Ok(Some(replace(&mut self.landmarks, landmarks)))
     }
 
-    /// Takes back a group that was carried out last, given the landmarks that this answered. It takes no memory and can't fail.
+    /// Undoes the group that was carried out last, given the landmarks that `carry_out` returned. It takes no memory and cannot fail.
     pub fn take_back(&mut self, group: &Group, landmarks: Option<Vec<u32>>)
         requires { IsOutline (outline_before group.now (option_map vec_items landmarks) self.old) }
         ensures { self.new ≡ outline_before group.now (option_map vec_items landmarks) self.old }
@@ -159,8 +158,8 @@ impl Outline {
         }
     }
 
-    /// Carries the group out, all of it or nothing. Refused is its first command that is not admitted after those before it, with its
-    /// refusal; and, where each is admitted, want of memory (11). After a refusal the outline is as it was.
+    /// Carries the group out, all of it or nothing. It fails with the refusal of the first command that is not admitted after those before it; or, if all
+    /// are admitted, for lack of memory (11). After a refusal the outline is as it was.
     pub fn apply_group(&mut self, group: &Group) -> Result<(), Refusal>
         ensures ok { OnOk result (EachStepsByGroup self.old group.now self.new) }
         ensures err { OnErr result (self.new ≡ self.old) }

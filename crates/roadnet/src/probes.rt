@@ -1,4 +1,4 @@
-// What commands are judged by, asked of a network or of its outline; and what of it earlier commands leave.
+// What commands are judged by, read from a network or from its outline, and what earlier commands change in it.
 
 ghost use Rattle.std.specs.Prelude.{◌≡◌, ◌<◌, ◌+◌, ◌&&◌, None, length};
 ghost use Rattle.roadnet.specs.Net.{Net, IsNetwork};
@@ -13,7 +13,7 @@ use crate::groups::Group;
 use crate::judging::{judge_close, judge_lay, judge_mark, judge_reopen, judge_set, judge_unmark};
 use crate::refusals::Refusal;
 
-/// What of a network its commands are judged by. Each answer is that of each network of the outline.
+/// The part of a network by which commands are judged. Each answer holds for every network of the outline.
 pub trait Probed {
     ghost outline: { Self → Outlined };
 
@@ -37,12 +37,12 @@ pub trait Probed {
     fn count_landmarks(&self) -> u64
         ensures { OfEachNetwork (outline self.now) (λ net. length net.landmarks ≡ result) };
 
-    /// For how many arcs there is room.
+    /// How many arcs there is room for.
     fn most_arcs(&self) -> u64
         ensures { OfEachNetwork (outline self.now) (λ net. net.room ≡ result) };
 }
 
-/// What is seen of a network at one arc and one node.
+/// What one arc and one node of a network show.
 #[derive(Clone, Copy, Debug)]
 struct Seen {
     /// Whether the arc is open, if there is one.
@@ -55,14 +55,14 @@ struct Seen {
     landmarks: u64,
 }
 
-/// One more, where that is a number of 64 bits.
+/// One more, if that is a number of 64 bits.
 fn one_more(n: u64) -> u64
     ensures { n < 18446744073709551615 → result ≡ n + 1 }
 {
     if n < u64::MAX { n + 1 } else { n }
 }
 
-/// What is seen at arc `k` and node `x` after an admitted command.
+/// What arc `k` and node `x` show after an admitted command.
 fn seen_after_one(command: &Command, k: u64, x: u64, seen: Seen) -> Seen
     ensures { (net : Net) → IsNetwork net → refusal_of net command.now ≡ None → Sees net k x seen → Sees (changed net command.now) k x result }
 {
@@ -159,7 +159,7 @@ fn seen_after_one(command: &Command, k: u64, x: u64, seen: Seen) -> Seen
     }
 }
 
-/// What is seen at arc `k` and node `x` after commands that are admitted, each in its turn.
+/// What arc `k` and node `x` show after commands that are each admitted in turn.
 fn seen_after(commands: &[Command], k: u64, x: u64, seen: Seen) -> Seen
     ensures { (net : Net) → IsNetwork net → first_refusal net commands.now ≡ None → Sees net k x seen → Sees (changed_by net commands.now) k x result }
 {
@@ -170,7 +170,7 @@ fn seen_after(commands: &[Command], k: u64, x: u64, seen: Seen) -> Seen
     last
 }
 
-/// What is seen at arc `k` and node `x` after groups of which each command is admitted in its turn.
+/// What arc `k` and node `x` show after groups whose commands are each admitted in turn.
 fn seen_after_all(groups: &[Group], k: u64, x: u64, seen: Seen) -> Seen
     ensures { (net : Net) → IsNetwork net → first_refusal_of_all net groups.now ≡ None → Sees net k x seen → Sees (changed_by_all net groups.now) k x result }
 {
@@ -181,7 +181,7 @@ fn seen_after_all(groups: &[Group], k: u64, x: u64, seen: Seen) -> Seen
     last
 }
 
-/// What is seen at arc `k` and node `x` behind the groups and the commands.
+/// What arc `k` and node `x` show after the groups and the commands.
 fn see<S: Probed>(site: &S, groups: &[Group], commands: &[Command], k: u64, x: u64) -> Seen
     requires groups { OfEachNetwork (S.outline site.now) (λ net. first_refusal_of_all net groups.now ≡ None) }
     requires commands { OfEachNetwork (S.outline site.now) (λ net. first_refusal (changed_by_all net groups.now) commands.now ≡ None) }
@@ -207,7 +207,7 @@ fn knows_both<S: Probed>(site: &S, x: u64, y: u64) -> bool
     site.knows_node(y)
 }
 
-/// Whether the command may be carried out after the earlier groups and commands, and else the lowest refusal that applies.
+/// Whether the command may be carried out after the earlier groups and commands, or otherwise the lowest refusal that applies.
 fn admit_after<S: Probed>(
     site: &S,
     groups: &[Group],
@@ -247,8 +247,8 @@ fn admit_after<S: Probed>(
     }
 }
 
-/// Whether the commands may be carried out one after another, after the earlier groups, and else the refusal of the first one that is
-/// not admitted after those before it. It takes no memory.
+/// Whether the commands may be carried out one after another, after the earlier groups. Otherwise the refusal of the first one that is not admitted after
+/// those before it. It takes no memory.
 pub fn admit_one<S: Probed>(site: &S, groups: &[Group], commands: &[Command]) -> Result<(), Refusal>
     requires groups { OfEachNetwork (S.outline site.now) (λ net. first_refusal_of_all net groups.now ≡ None) }
     ensures { OfEachNetwork (S.outline site.now) (λ net. IsVerdict (first_refusal (changed_by_all net groups.now) commands.now) result) }
@@ -261,8 +261,8 @@ pub fn admit_one<S: Probed>(site: &S, groups: &[Group], commands: &[Command]) ->
     Ok(())
 }
 
-/// Whether the groups may be carried out one after another, and else the refusal of the first command that is not admitted after those
-/// before it. It takes no memory.
+/// Whether the groups may be carried out one after another. Otherwise the refusal of the first command that is not admitted after those before it. It takes
+/// no memory.
 pub fn admit_all<S: Probed>(site: &S, groups: &[Group]) -> Result<(), Refusal>
     ensures { OfEachNetwork (S.outline site.now) (λ net. IsVerdict (first_refusal_of_all net groups.now) result) }
 {

@@ -3,19 +3,19 @@ ghost use Rattle.std.specs.Prelude.{◌≡◌};
 use std::alloc::AllocError;
 use thiserror::Error;
 
-/// Why a call was refused. Each refusal has a number, by which it is printed: `CODE Name`.
+/// Why a call was refused. Each refusal has a number, and is printed as `CODE Name`.
 #[derive(Clone, Copy, Debug, PartialEq, Eq, Error)]
 pub enum Refusal {
     /// A number is not in its range.
     #[error("5 NumberRange")]
     NumberRange,
-    /// There are more arcs than a network may have; or a room is below the number of arcs, or above the most that there may be.
+    /// There are more arcs than a network may have. Or a room is below the number of arcs, or above the most that there may be.
     #[error("9 TooLarge")]
     TooLarge,
     /// The reader failed.
     #[error("10 Read")]
     Read,
-    /// No memory was given.
+    /// There was no memory.
     #[error("11 OutOfMemory")]
     OutOfMemory,
     /// The writer failed.
@@ -42,25 +42,25 @@ pub enum Refusal {
     /// The node is a landmark already.
     #[error("25 AlreadyLandmark")]
     AlreadyLandmark,
-    /// The node is no landmark.
+    /// The node is not a landmark.
     #[error("26 NotALandmark")]
     NotALandmark,
-    /// There are 1,000 landmarks already, or more than that are given.
+    /// There are 1,000 landmarks already, or more are given.
     #[error("27 TooManyLandmarks")]
     TooManyLandmarks,
-    /// There are as many arcs as the network has room for.
+    /// The network has no room for another arc.
     #[error("29 NoRoom")]
     NoRoom,
     /// The version would pass 2^48.
     #[error("28 VersionsExhausted")]
     VersionsExhausted,
-    /// The file is no store.
+    /// The file is not a store.
     #[error("40 NotAStore")]
     NotAStore,
     /// The store has another format.
     #[error("41 WrongFormat")]
     WrongFormat,
-    /// This page of the store means nothing.
+    /// This page of the store is not a valid page.
     #[error("42 Damaged page {page}")]
     Damaged { page: u64 },
     /// The disk failed in this call.
@@ -75,10 +75,10 @@ pub enum Refusal {
     /// The disk is not empty.
     #[error("46 NotEmpty")]
     NotEmpty,
-    /// With these more commands would be pending than may be.
+    /// With these commands, more would be pending than may be.
     #[error("50 QueueFull")]
     QueueFull,
-    /// No task is out.
+    /// No task has been handed out.
     #[error("51 NoTask")]
     NoTask,
     /// The view is not of the task's network.
@@ -90,16 +90,16 @@ pub enum Refusal {
     /// The command is not durable yet.
     #[error("54 NotYet")]
     NotYet,
-    /// As many readers are there as may be.
+    /// There are as many readers as there may be.
     #[error("60 NoReaderPlace")]
     NoReaderPlace,
     /// The desk takes no more calls.
     #[error("61 Closed")]
     Closed,
-    /// With these more commands would have been accepted than one life may have.
+    /// With these commands, more would have been accepted than one life may have.
     #[error("62 HistoryFull")]
     HistoryFull,
-    /// The system gave no thread.
+    /// The system could not start a thread.
     #[error("63 NoThread")]
     NoThread,
 }
@@ -148,7 +148,7 @@ impl Refusal {
     }
 }
 
-/// No memory was given: the refusal of calls that can have no other.
+/// There was no memory: the error of calls that have no other.
 #[derive(Clone, Copy, Debug, PartialEq, Eq, Error)]
 #[error("11 OutOfMemory")]
 pub struct OutOfMemory;

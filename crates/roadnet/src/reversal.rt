@@ -19,7 +19,7 @@ impl RoadArc {
     }
 }
 
-/// The arcs the other way round, in their order.
+/// The arcs the other way round, in the same order.
 fn reversed_arcs(alloc: Global, arcs: &[RoadArc]) -> Result<Vec<RoadArc>, OutOfMemory>
     ensures { IfOk result (λ all. all.items ≡ map reversed_arc arcs.now) }
 {
@@ -31,9 +31,9 @@ fn reversed_arcs(alloc: Global, arcs: &[RoadArc]) -> Result<Vec<RoadArc>, OutOfM
 }
 
 impl Network {
-    /// The network with each arc the other way round, from the same allocator. The row of a node there tells the distances to that node here.
+    /// The network with each arc the other way round, from the same allocator. There, the row of a node has the distances to that node here.
     ///
-    /// The one error is want of memory, for 16 bytes an arc and 4 a landmark.
+    /// The only error is lack of memory, for 16 bytes an arc and 4 a landmark.
     pub fn reversed(&self) -> Result<Network, OutOfMemory>
         ensures network { IfOk result (λ network. network ≡ reversed self.now) }
     {
@@ -47,7 +47,7 @@ impl Network {
     }
 }
 
-/// What holds of a network and the same with its arcs the other way round.
+/// What holds of a network and of the same network with its arcs the other way round.
 pub fn laws_of_reversal()
     ensures twice { ReversedTwice }
     ensures walks { WalksReverse }

@@ -1,4 +1,4 @@
-// Changes of arcs, noted so that they can be taken back.
+// Changes of arcs, noted so that they can be undone.
 
 ghost use Rattle.std.specs.Prelude.{◌≡◌, ◌-◌, ◌<◌, ◌++◌, [], ◌∷◌, OnOk, All, fold, length, set};
 ghost use Rattle.roadnet.specs.Net.{nth};
@@ -11,10 +11,10 @@ use crate::commands::Command;
 use crate::groups::Group;
 use std::alloc::AllocError;
 
-/// What takes one change of a list of arcs back.
+/// What undoes one change of a list of arcs.
 #[derive(Clone, Copy, Debug)]
 pub enum Earlier {
-    /// The arc that stood at this place.
+    /// The arc that was at this place.
     Was { place: usize, arc: RoadArc },
     /// An arc was added.
     Added,
@@ -30,7 +30,7 @@ fn arc_of(arcs: &[RoadArc], k: u64) -> Option<RoadArc>
     Some(arcs[(k - 1) as usize])
 }
 
-/// Puts the arc in the place of another, which is noted.
+/// Replaces an arc, and notes the old one.
 fn replace_arc(
     arcs: &mut Vec<RoadArc>,
     notes: &mut Vec<Earlier>,
@@ -47,7 +47,7 @@ fn replace_arc(
     Ok(())
 }
 
-/// Adds the arc, which is noted.
+/// Adds the arc, and notes that.
 fn add_arc(
     arcs: &mut Vec<RoadArc>,
     notes: &mut Vec<Earlier>,
@@ -62,7 +62,7 @@ fn add_arc(
     Ok(())
 }
 
-/// Changes the arc that the command names, or adds the one that it lays, and notes what that takes back.
+/// Changes the arc that the command names, or adds the one that it lays, and notes what undoes that.
 fn change_arc(
     arcs: &mut Vec<RoadArc>,
     notes: &mut Vec<Earlier>,
@@ -108,7 +108,7 @@ fn change_arc(
     }
 }
 
-/// Does so for commands, the first one first.
+/// Changes arcs by commands, the first one first.
 fn change_arcs(
     arcs: &mut Vec<RoadArc>,
     notes: &mut Vec<Earlier>,
@@ -124,7 +124,7 @@ fn change_arcs(
     Ok(())
 }
 
-/// Does so for groups, the first one first.
+/// Changes arcs by groups, the first one first.
 pub fn change_all(
     arcs: &mut Vec<RoadArc>,
     notes: &mut Vec<Earlier>,
@@ -140,7 +140,7 @@ pub fn change_all(
     Ok(())
 }
 
-/// Takes the changes back, the last one first.
+/// Undoes the changes, the last one first.
 pub fn restore(arcs: &mut Vec<RoadArc>, notes: Vec<Earlier>)
     ensures { arcs.new.items ≡ restored notes.items arcs.old.items }
 {

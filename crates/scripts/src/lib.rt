@@ -1,4 +1,4 @@
-//! The texts of scripts: command texts with the lines of further events.
+//! The texts of scripts: command texts with lines for further events.
 #![tactic(auto)]
 
 mod script_steps;

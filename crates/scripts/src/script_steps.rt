@@ -22,7 +22,7 @@ pub(crate) fn pages_of(number: Numeral) -> Result<StepPages, Code>
     }
 }
 
-/// The event of a line `step`, by what stands behind that word.
+/// The event of a line `step`, given what follows that word.
 pub(crate) fn step_event(rest: &[u8]) -> Result<Event<Pick>, Code>
     ensures { ReadsEvent (codes "step" ∷ fields rest.now) result }
 {

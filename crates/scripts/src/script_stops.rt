@@ -16,13 +16,13 @@ use std::alloc::Global;
 /// The most picks of a stop.
 const MOST_PICKS: usize = 8;
 
-/// How many picks are read at most: by one more than a stop may have it is seen that they are too many.
+/// The most picks that are read: one more than a stop may have is enough to see that there are too many.
 const MOST_READ: usize = MOST_PICKS + 1;
 
-/// The picks with which fields begin, and what stands behind them.
+/// The picks at the beginning of some fields, and what follows them.
 #[derive(Clone, Copy)]
 pub(crate) struct PicksRead<'a> {
-    /// The picks, and behind them places that are free.
+    /// The picks, followed by free places.
     places: [Pick; MOST_READ],
     count: usize,
     /// Whether each number is that of a byte.
@@ -48,7 +48,7 @@ fn call_of(number: Numeral) -> Result<u64, Code>
     Ok(number.size)
 }
 
-/// The number of a call. None where the field is no numeral.
+/// The number of a call. Nothing if the field is no numeral.
 fn read_call(field: &[u8]) -> Option<Result<u64, Code>>
     ensures { result ≡ call_read field.now }
 {
@@ -66,7 +66,7 @@ fn byte_of(number: Numeral) -> Result<Pick, Code>
     Ok(Pick::Byte(number.size as u8))
 }
 
-/// `old`, `new` or the number of a byte. None where the field is none of them.
+/// `old`, `new` or the number of a byte. Nothing if the field is none of these.
 fn read_pick(field: &[u8]) -> Option<Result<Pick, Code>>
     ensures { result ≡ pick_read field.now }
 {
@@ -81,7 +81,7 @@ fn read_pick(field: &[u8]) -> Option<Result<Pick, Code>>
 }
 
 impl<'a> PicksRead<'a> {
-    /// Puts a pick behind those that were read, with what stands behind it. An old byte stands for a number that is none of a byte.
+    /// Appends a pick to those that were read, with what follows it. For a number that is not a byte's it puts an old byte.
     fn take(&mut self, pick: Result<Pick, Code>, rest: &'a [u8])
         requires { self.old.count < 9 }
         ensures picks { picks_read self.new ≡ picks_read self.old ++ pick_kept pick ∷ [] }
@@ -101,7 +101,7 @@ impl<'a> PicksRead<'a> {
     }
 }
 
-/// Reads the picks with which the fields begin, up to nine.
+/// Reads the picks at the beginning of the fields, up to nine.
 fn read_picks<'a>(behind: &'a [u8]) -> PicksRead<'a>
     ensures read { ReadsPicks (fields behind.now) result }
     ensures within { result.count ≤ 9 }
@@ -140,7 +140,7 @@ fn writing_word(field: &[u8]) -> Option<WritingWord>
     None
 }
 
-/// The event, where nothing stands behind its word.
+/// The event, if nothing follows its word.
 fn alone(writing: Writing, behind: &[u8]) -> Option<Result<Writing, Code>>
     ensures { option_map (λ read. map_line writing_line read) result ≡ alone_read (writing_line writing) (fields behind.now) }
 {
@@ -158,7 +158,7 @@ fn step_of(number: Numeral) -> Result<Writing, Code>
     Ok(Writing::Step { pages })
 }
 
-/// The event with which the fields end. None where they are none.
+/// The event at the end of the fields. Nothing if they are no event.
 fn read_writing(rest: &[u8]) -> Option<Result<Writing, Code>>
     ensures { option_map (λ read. map_line writing_line read) result ≡ writing_read (fields rest.now) }
 {
@@ -170,8 +170,7 @@ fn read_writing(rest: &[u8]) -> Option<Result<Writing, Code>>
     }
 }
 
-/// The event that is cut at this call, by these picks, each of which is in range or one is not. Memory for the picks is asked only
-/// where there is no fault.
+/// The event that is cut at this call, by these picks, which are all in range or not. Memory for the picks is only asked for if there is no fault.
 fn cut_event(
     alloc: Global,
     call: Option<Result<u64, Code>>,
@@ -200,7 +199,7 @@ fn cut_event(
     }
 }
 
-/// The event of a line `stop`, by what stands behind that word.
+/// The event of a line `stop`, given what follows that word.
 pub(crate) fn stop_event(alloc: Global, rest: &[u8]) -> Result<Event<Pick>, Code>
     ensures { ReadsEvent (codes "stop" ∷ fields rest.now) result }
 {

@@ -29,7 +29,7 @@ pub struct EventLines {
     open: OpenGroup,
 }
 
-/// A line by its word, with what stands behind it.
+/// A line by its word, with what follows it.
 enum Kind<'a> {
     /// A line with no field, or a comment.
     Ignored,
@@ -49,7 +49,7 @@ fn kind_of(line: &[u8]) -> Kind<'_>
     }
 }
 
-/// The event of a word alone, or the fault of what stands behind it.
+/// The event of a word alone, or the fault of what follows it.
 fn read_bare(word: Bare, rest: &[u8]) -> Result<Event<Pick>, Code>
     ensures { ReadsEvent (spelling (Word.WithNone word) ∷ fields rest.now) result }
 {
@@ -59,14 +59,14 @@ fn read_bare(word: Bare, rest: &[u8]) -> Result<Event<Pick>, Code>
     }
 }
 
-/// The event of a word with one number, or the fault of what stands behind it.
+/// The event of a word with one number, or the fault of what follows it.
 fn read_one(word: OneNumber, rest: &[u8]) -> Result<Event<Pick>, Code>
     ensures { ReadsEvent (spelling (Word.WithOne word) ∷ fields rest.now) result }
 {
     Ok(one_event(word, number(rest)?))
 }
 
-/// The event of a word with two numbers, or the fault of what stands behind it.
+/// The event of a word with two numbers, or the fault of what follows it.
 fn read_two(word: TwoNumbers, rest: &[u8]) -> Result<Event<Pick>, Code>
     ensures { ReadsEvent (spelling (Word.WithTwo word) ∷ fields rest.now) result }
 {
@@ -74,7 +74,7 @@ fn read_two(word: TwoNumbers, rest: &[u8]) -> Result<Event<Pick>, Code>
     Ok(two_event(word, first, second))
 }
 
-/// The event of `lay`, or the fault of what stands behind it.
+/// The event of `lay`, or the fault of what follows it.
 fn read_lay(rest: &[u8]) -> Result<Event<Pick>, Code>
     ensures { ReadsEvent (spelling Word.Lay ∷ fields rest.now) result }
 {
@@ -82,7 +82,7 @@ fn read_lay(rest: &[u8]) -> Result<Event<Pick>, Code>
     Ok(lay_event(tail, head, length))
 }
 
-/// The event of a word, or the fault of what stands behind it.
+/// The event of a word, or the fault of what follows it.
 fn read_event(alloc: Global, word: Word, rest: &[u8]) -> Result<Event<Pick>, Code>
     ensures { ReadsEvent (spelling word ∷ fields rest.now) result }
 {
@@ -96,7 +96,7 @@ fn read_event(alloc: Global, word: Word, rest: &[u8]) -> Result<Event<Pick>, Cod
     }
 }
 
-/// What a line of a script says that stands in no group: an event, or nothing.
+/// What a line of a script outside of groups says: an event, or nothing.
 fn read_line(alloc: Global, line: &[u8]) -> Result<Option<Event<Pick>>, Code>
     ensures { ReadsLine (fields line.now) result }
 {
@@ -127,7 +127,7 @@ impl EventLines {
         }
     }
 
-    /// Adds an event. Says whether there was memory for it.
+    /// Adds an event. Returns whether there was memory for it.
     fn keep(&mut self, event: Event<Pick>) -> bool
         ensures kept { self.new.events.items ≡ (if result then self.old.events.items ++ event ∷ [] else self.old.events.items) }
         ensures open { self.new.open ≡ self.old.open }
@@ -149,7 +149,7 @@ impl EventLines {
         }
     }
 
-    /// Takes a line `end`, with what follows the word: it is the group's event.
+    /// Takes a line `end`, with what follows the word: then the group is an event.
     fn end(&mut self, rest: &[u8]) -> Result<(), Code>
         ensures reads_nothing { IfErr result (λ code. code ≢ Code.Read) }
         ensures takes { (earlier : List Row) → HasEvents earlier self.old → Takes script_line_code HasEvents earlier (codes "end" ∷ fields rest.now) self.new result }
@@ -167,7 +167,7 @@ impl EventLines {
         Ok(())
     }
 
-    /// Takes a line within a group that says this command.
+    /// Takes a line of a group with this command.
     fn add(&mut self, command: Command) -> Result<(), Code>
         requires { is_some self.old.open ≡ true }
         ensures reads_nothing { IfErr result (λ code. code ≢ Code.Read) }
@@ -179,7 +179,7 @@ impl EventLines {
         }
     }
 
-    /// Takes a line within a group that is no `begin` and no `end`: a command, or nothing.
+    /// Takes a line of a group that is neither `begin` nor `end`: a command, or nothing.
     fn take_within(&mut self, line: &[u8]) -> Result<(), Code>
         requires within { is_some self.old.open ≡ true }
         requires no_bound { (begins (fields line.now) ≡ false) × (ends (fields line.now) ≡ false) }
@@ -192,7 +192,7 @@ impl EventLines {
         }
     }
 
-    /// Takes a line outside of groups that is no `begin` and no `end`: an event, or nothing.
+    /// Takes a line outside of groups that is neither `begin` nor `end`: an event, or nothing.
     fn take_event(&mut self, line: &[u8]) -> Result<(), Code>
         requires outside { self.old.open ≡ None }
         requires no_bound { (begins (fields line.now) ≡ false) × (ends (fields line.now) ≡ false) }
@@ -254,7 +254,7 @@ impl TakeLines for EventLines {
     ghost blank_is_no_comment = { refl };
 }
 
-/// The events at the end of a script, which must not be within a group.
+/// The events at the end of a script. The script must not end within a group.
 fn events_at_end(ended: Ended<EventLines>) -> Result<Vec<Event<Pick>>, Fault>
     ensures reads_nothing { IfErr result (λ fault. fault.code ≢ Code.Read) }
     ensures ends { (lines : List Row) → HasEvents lines ended.taker → ended.lines ≡ length lines → Ends script_text lines (map_ok (λ events. map as_line events.items) result) }
@@ -278,10 +278,10 @@ fn events_at_end(ended: Ended<EventLines>) -> Result<Vec<Event<Pick>>, Fault>
     Ok(events)
 }
 
-/// The events that a script gives, in the order of its lines, or the script's first fault. The lines `begin` and `end` enclose the commands of a
-/// group, whose event stands at its `end`; a command elsewhere is a group of one. Whether numbers name an arc, a node or a length is judged
-/// where the event is run. The count of failed calls tells a failed read from a fault of the text. After an `Err` the text is not used again.
-/// It takes the memory of an event a line, and 32 bytes a command of a group that is enclosed.
+/// The events of a script, in the order of its lines, or the script's first fault. The lines `begin` and `end` enclose the commands of a group, which is an
+/// event at its `end`; any other command is a group of one. Whether numbers name an arc, a node or a length is judged when the event is run. The count of
+/// failed calls distinguishes a failed read from a fault of the text. After an `Err` the text is not used again. The call takes the memory of an event for
+/// each line, and 32 bytes for each command between `begin` and `end`.
 pub fn read_script<S: Text>(alloc: Global, text: &mut S) -> Result<Vec<Event<Pick>>, Fault>
     ensures read { IfSome (S.bytes text.old)
         (λ bytes. Reads script_text bytes (S.source text.new) (map_ok (λ events. map as_line events.items) result)) }
@@ -291,7 +291,7 @@ pub fn read_script<S: Text>(alloc: Global, text: &mut S) -> Result<Vec<Event<Pic
     events_at_end(ended)
 }
 
-/// The events that a script in memory gives, as `read_script`.
+/// The events of a script in memory, as by `read_script`.
 pub fn parse_script(alloc: Global, bytes: &[u8]) -> Result<Vec<Event<Pick>>, Fault>
     ensures { Reads script_text bytes.now InMemory (map_ok (λ events. map as_line events.items) result) }
 {

@@ -9,7 +9,7 @@ use machine::Event;
 use roadnet::{Command, Group};
 use rows::Query;
 
-/// A word with no field behind it.
+/// A word with no field after it.
 #[derive(Clone, Copy)]
 pub(crate) enum Bare {
     Flush,
@@ -18,7 +18,7 @@ pub(crate) enum Bare {
     Publish,
 }
 
-/// A word by what stands behind it.
+/// A word by what follows it.
 #[derive(Clone, Copy)]
 pub(crate) enum Word {
     WithNone(Bare),

@@ -34,14 +34,13 @@ use store::open;
 
 const COMMANDS: u8 = 0;
 
-/// With so many commands pending they are made durable: as many as a page of the journal has at most.
+/// With this many pending commands they are made durable: as many as a page of the journal holds at most.
 const MOST_OF_PAGE: u64 = MOST_COMMANDS as u64;
 
 /// At the end they are made durable while any are pending.
 const ANY: u64 = 1;
 
-/// Groups being applied, one after the other: the ledger of the store, what the groups came to, in order, and how many of these
-/// outcomes are told.
+/// Groups that are being applied, one after the other: the ledger of the store, the outcomes of the groups, in order, and how many of these are reported.
 #[derive(Drop)]
 struct Applying<D: Disk> {
     ledger: Ledger<D>,
@@ -50,7 +49,7 @@ struct Applying<D: Disk> {
 }
 
 impl<D: Disk> Applying<D> {
-    /// Submits a copy of the next group, and notes what it came to.
+    /// Submits a copy of the next group, and notes the outcome.
     fn take(&mut self, group: &Group)
         requires ready { IsReady self.old.ledger.machine }
         requires few { pending self.old.ledger.machine < 253 }
@@ -98,7 +97,7 @@ impl<D: Disk> Applying<D> {
         Ok(())
     }
 
-    /// Makes the first pending groups durable, of which there are some. Where the journal is full a checkpoint is written first.
+    /// Makes the first pending groups durable, of which there are some. If the journal is full, writes a checkpoint first.
     fn flush(&mut self) -> Result<(), Refusal>
         requires ready { IsReady self.old.ledger.machine }
         requires some { 1 ≤ pending self.old.ledger.machine }
@@ -113,7 +112,7 @@ impl<D: Disk> Applying<D> {
         }
     }
 
-    /// Flushes while so many commands are pending, or more.
+    /// Flushes while at least so many commands are pending.
     fn flush_below(&mut self, limit: u64) -> Result<(), Refusal>
         requires ready { IsReady self.old.ledger.machine }
         requires some { 1 ≤ limit }
@@ -127,7 +126,7 @@ impl<D: Disk> Applying<D> {
         Ok(())
     }
 
-    /// Whether the outcome may be told: the group is durable, or was refused.
+    /// Whether the outcome may be reported: the group is durable, or was refused.
     fn is_settled(&self, outcome: &Outcome) -> bool
         ensures { Decides result (IsSettled self.now.ledger.machine.durable outcome.now) }
     {
@@ -137,7 +136,7 @@ impl<D: Disk> Applying<D> {
         }
     }
 
-    /// Writes a line for each outcome that is not told yet, up to the first group that is not durable.
+    /// Writes a line for each outcome that is not reported yet, up to the first group that is not durable.
     fn tell<W: Write>(&mut self, out: &mut CountedWriter<'_, W>) -> Result<(), Failed>
         requires { self.old.told ≤ length self.old.outcomes.items }
         ensures ledger { self.new.ledger ≡ self.old.ledger }
@@ -159,7 +158,7 @@ impl<D: Disk> Applying<D> {
         Ok(())
     }
 
-    /// Makes groups durable while so many commands are pending, or more, tells what may be told, also where that is refused, and sends it out.
+    /// Makes groups durable while at least so many commands are pending; then, even if that is refused, reports what may be reported, and sends it.
     fn settle<W: Write>(&mut self, limit: u64, out: &mut CountedWriter<'_, W>) -> Result<(), Failed>
         requires ready { IsReady self.old.ledger.machine }
         requires some { 1 ≤ limit }
@@ -178,7 +177,7 @@ impl<D: Disk> Applying<D> {
         flushed.map_err(Failed::Code)
     }
 
-    /// Takes the next group, and settles what is pending where that is as much as a page holds.
+    /// Takes the next group, and settles what is pending if that fills a page.
     fn advance<W: Write>(
         &mut self,
         group: &Group,
@@ -201,7 +200,7 @@ impl<D: Disk> Applying<D> {
         self.settle(MOST_OF_PAGE, out)
     }
 
-    /// Takes the groups in their order, and settles what is pending where that is as much as a page holds.
+    /// Takes the groups in their order, and settles what is pending whenever that fills a page.
     fn take_all<W: Write>(
         &mut self,
         groups: &[Group],
@@ -239,7 +238,7 @@ impl<D: Disk> Applying<D> {
         self.settle(ANY, out)
     }
 
-    /// The disk, of which no call is made.
+    /// The disk. No call of it is made.
     fn close(self) -> D
         ensures disk { result ≡ self.ledger.disk }
         ensures honest { CameTidy D.honest D.content self.ledger.given → D.honest self.ledger.disk }
@@ -260,7 +259,7 @@ fn ledger_on<D: Disk>(alloc: Global, disk: D) -> Result<Ledger<D>, (Refusal, D)>
     ensures idle { IfOk result (λ ledger. IsIdle ledger.machine) }
     ensures begins { ForTidy D.honest D.content disk (λ net version. IfOk result (λ ledger. GroupsTaken net version [] [] 0 ledger.machine)) }
     ensures came { ForTidy D.honest D.content disk (λ net version. IfOk result (λ ledger. CameTidy D.honest D.content ledger.given)) }
-    // It is the ledger of a store, which the disk stands for where it keeps the disk model.
+    // It is the ledger of a store for which the disk stands, if it keeps the disk model.
     ensures opened { IfOk result (λ ledger. OfStore (D.honest disk) (D.content disk) (λ net version. GroupsTaken net version [] [] 0 ledger.machine)) }
     ensures disk { MatchResult result (λ ledger. ComesBack D.Disk (D.failures disk) disk ledger.disk)
         (λ refused. ComesBack D.Disk (failures_with refused.0 (D.failures disk)) disk refused.1) }
@@ -302,46 +301,45 @@ fn apply_groups<D: Disk, W: Write>(
     (ended, applying.close())
 }
 
-/// Applies the groups of commands of a text to the store on a disk, in their order, and writes one line a group: `ok N` once the group
-/// is durable as version N, or `no CODE` for one that is refused (20 to 29, 62, 11). The disk is handed back.
+/// Applies the groups of commands of a text to the store on a disk, in their order, and writes one line for each group: `ok N` once the group is durable as
+/// version N, or `no CODE` if it is refused (20 to 29, 62, 11). The disk is handed back.
 ///
-/// The store is opened first, then the text is read whole, then the groups are applied. While 253 commands or more are pending groups are made
-/// durable, and at the end all; where the journal is full a checkpoint is written. It takes 24 bytes a group for what it came to, beside the
-/// text's and the ledger's groups: no row is computed.
+/// The store is opened first, then the text is read completely, then the groups are applied. While 253 commands or more are pending, groups are made
+/// durable, and at the end all of them are. If the journal is full, a checkpoint is written. It takes 24 bytes for the outcome of each group, beside the
+/// text's and the ledger's groups. No row is computed.
 ///
-/// Refused is what is refused on opening: no store (40), another format (41), a damaged page (42), a disk that fails (43), want of memory
-/// (11); then a fault of the text, `which` 0. Nothing is applied or written then. A disk that fails later (43) and want of memory for a
-/// flush or checkpoint (11) end it after the lines before the first group that is not durable: no group that is told is lost. A failed
-/// write (12) ends it too: then the last groups may be durable and not told, or lost. A failed read is fault 10 of the line being read; it
-/// and 12 are told only where the count of the text's or the writer's failed calls rose. After an `Err` text and writer are not used
-/// again.
+/// It is refused as opening is: for a file that is not a store (40), another format (41), a damaged page (42), a failing disk (43), or lack of memory (11);
+/// then for a fault of the text, `which` 0. Then nothing is applied or written. If the disk fails later (43), or there is no memory for a flush or
+/// checkpoint (11), the call ends after the lines before the first group that is not durable: no group with a line is lost. A failed write (12) ends it
+/// too: then the last groups may be durable without a line, or lost. A failed read is fault 10 of the line being read. It and 12 are reported only if the
+/// count of failed calls of the text or of the writer rose. After an `Err` the text and the writer are not used again.
 pub fn apply_text<D: Disk, S: Text, W: Write>(
     alloc: Global,
     disk: D,
     commands: &mut S,
     out: &mut CountedWriter<'_, W>,
 ) -> (Result<(), Failed>, D)
-    // Where the disk stands, tidy, for this network at this version, all that a stop may leave stands for that network after the accepted
-    // groups, and the lines of all groups are written.
+    // If the disk stands, tidy, for this network at this version, everything that a stop may leave stands for that network after the accepted groups, and
+    // the lines of all groups are written.
     ensures applied { ForTidy D.honest D.content disk (λ net version. OnOk result.0 (IfSome (S.bytes commands.old)
         (λ text. IsApplied net version text (D.content result.1) (D.left result.1) (W.contents (writer_of out.old)) (W.contents (writer_of out.new))))) }
-    // Where it ends early, nothing was begun, or nothing that was told is lost.
+    // If it ends early, nothing was begun, or nothing that has a line is lost.
     ensures cut_off { ForTidy D.honest D.content disk (λ net version. IfErr result.0 (λ failed. IfSome (S.bytes commands.old)
         (λ text. (StaysSame D.content D.left D.moment D.left_since disk result.1 × (writer_of out.new ≡ writer_of out.old))
         ⊎ IsCutOff net version text (D.left result.1) (W.contents (writer_of out.old)) (W.contents (writer_of out.new)) failed))) }
-    // A stop at any moment of the call leaves what it might have left before, or what stands for the network after a beginning of the
-    // text's accepted groups.
+    // A stop during the call leaves what it might have left before, or what stands for the network after some of the text's accepted groups, from the first
+    // on.
     ensures any_moment { ForTidy D.honest D.content disk (λ net version. IfSome (S.bytes commands.old)
         (λ text. AtAnyMoment D.moment D.left_since D.left disk result.1 (StandsForBeginningOfText net version text))) }
-    // Over any disk: Ok comes where a store was opened, and all groups of the text are told.
+    // On any disk: Ok means that a store was opened, and that all groups of the text have their lines.
     ensures told { OnOk result.0 (IfSome (S.bytes commands.old)
         (λ text. IsTold (D.honest disk) (D.content disk) text (W.contents (writer_of out.old)) (W.contents (writer_of out.new)))) }
     ensures refused { IfErr result.0 (λ failed. IfSome (S.bytes commands.old)
         (λ text. IsRefusedApply (D.honest disk) (D.content disk) text (S.source commands.new) failed)) }
     ensures codes { IfErr result.0 IsOfStore }
-    // Want of memory is told only where the header fits the file.
+    // Lack of memory is reported only if the header fits the file.
     ensures order { D.honest disk → IfErr result.0 (λ failed. IfNoMemory failed (HeaderFits (D.content disk))) }
-    // The disk's count of failures rises where 43 is told, and for no other refusal but a failed write.
+    // The disk's count of failures rises if 43 is reported. At no other refusal does it rise, except perhaps at a failed write.
     ensures failed { CountsDevice (D.failures disk) (D.failures result.1) result.0 }
     ensures untouched { D.honest disk → IfErr result.0 (λ failed.
         IfTextOrFileRefused failed (StaysSame D.content D.left D.moment D.left_since disk result.1)) }

@@ -1,4 +1,4 @@
-// A store that is only looked at.
+// A store that is only examined.
 ghost use Rattle.std.specs.Prelude.{◌↔◌, OnOk, IfErr};
 ghost use Rattle.disk.specs.Contents.{Only};
 ghost use Rattle.disk.specs.Moments.{StaysSame};
@@ -26,7 +26,7 @@ fn put_slot<W: Write>(out: &mut CountedWriter<'_, W>, slot: Slot, epoch: u64) ->
     }
 }
 
-/// `v V`, `slot A E` or `slot B E`, and `journal U`, which are sent out.
+/// `v V`, `slot A E` or `slot B E`, and `journal U`, sent.
 fn put_standing<W: Write>(
     out: &mut CountedWriter<'_, W>,
     version: u64,
@@ -40,13 +40,13 @@ fn put_standing<W: Write>(
     out.flush()
 }
 
-/// Looks at the store on a disk, and writes how it stands: `v V`, its version; `slot A E` or `slot B E`, the slot that holds its last
-/// checkpoint, and that slot's epoch; `journal U`, how many pages of the journal stand behind it. The whole file is judged first. Nothing
-/// is written to the disk, which is handed back.
+/// Examines the store on a disk, and writes how it stands: `v V`, its version; `slot A E` or `slot B E`, the slot that holds its last checkpoint, with that
+/// slot's epoch; `journal U`, how many pages of the journal follow that checkpoint. The whole file is judged first. Nothing is written to the disk, which
+/// is handed back.
 ///
-/// Refused is what is refused on opening: no store (40), another format (41), a damaged page (42), a disk that fails (43), want of memory (11), that
-/// only behind a header that fits the file. Nothing is written then. 43 is told only where the disk's count of failures rose. A failed write is 12,
-/// told only where the count of the writer's failed calls rose; the writer is not used again then.
+/// It is refused as opening is: for a file that is not a store (40), another format (41), a damaged page (42), a failing disk (43), or, only if the header
+/// fits the file, lack of memory (11). Then nothing is written. 43 is reported only if the disk's count of failures rose. A failed write is 12, and is
+/// reported only if the count of the writer's failed calls rose; then the writer is not used again.
 pub fn check_text<D: Disk, W: Write>(
     alloc: Global,
     disk: D,
@@ -56,11 +56,11 @@ pub fn check_text<D: Disk, W: Write>(
     ensures answered { OnOk result.0 (IsChecked (D.honest disk) (D.content disk) (W.contents (writer_of out.old)) (W.contents (writer_of out.new))) }
     ensures refused { IfErr result.0 (IsRefusedCheck (D.honest disk) (D.content disk)) }
     ensures order { D.honest disk → IfErr result.0 (λ failed. IfNoMemory failed (HeaderFits (D.content disk))) }
-    // The disk's count of failures rises where 43 is told, and for no other refusal but a failed write.
+    // The disk's count of failures rises if 43 is reported. At no other refusal does it rise, except perhaps at a failed write.
     ensures failed { CountsDevice (D.failures disk) (D.failures result.1) result.0 }
     // Nothing is written to the disk.
     ensures untouched { D.honest disk → StaysSame D.content D.left D.moment D.left_since disk result.1 }
-    // What is told no stop takes back.
+    // No stop takes back what is printed.
     ensures at_rest { D.honest disk → OnOk result.0 (Only (D.content result.1) (D.left result.1)) }
     ensures honest { D.honest result.1 ↔ D.honest disk }
     ensures unwritten { IfErr result.0 (LeavesUnwritten (writer_of out.old) (writer_of out.new)) }

@@ -29,8 +29,8 @@ const NETWORK: u8 = 0;
 
 const LANDMARKS: u8 = 1;
 
-/// The network, which has no landmark, with these of its nodes as landmarks, which ascend. More than 1,000 are refused with 27, and want
-/// of memory with 11.
+/// The network, which has no landmark, with these ascending nodes as its landmarks. It fails with 27 for more than 1,000 landmarks, and with 11 for lack of
+/// memory.
 fn with_landmarks(network: Network, landmarks: &[u32]) -> Result<Network, Refusal>
     requires bare { network.landmarks ≡ [] }
     requires ascending { IsStrictlyIncreasing landmarks.now }
@@ -51,8 +51,8 @@ fn with_landmarks(network: Network, landmarks: &[u32]) -> Result<Network, Refusa
     Ok(marked)
 }
 
-/// The network, which has no landmark, with these of its nodes as landmarks and with room for so many arcs, if a number is given. Refused are more than
-/// 1,000 landmarks (27), want of memory (11), and then a room below the number of arcs or above 67,108,864 (9).
+/// The network, which has no landmark, with these ascending nodes as its landmarks, and with room for so many arcs, if a number is given. It fails with 27
+/// for more than 1,000 landmarks, with 11 for lack of memory, and then with 9 for a room below the number of arcs or above 67,108,864.
 fn planned(network: Network, landmarks: &[u32], room: Option<u64>) -> Result<Network, Refusal>
     requires bare { network.landmarks ≡ [] }
     requires ascending { IsStrictlyIncreasing landmarks.now }
@@ -72,13 +72,12 @@ fn planned(network: Network, landmarks: &[u32], room: Option<u64>) -> Result<Net
     }
 }
 
-/// The network of a `.gr` text, with the landmarks of a `.ss` text, and with room for so many arcs, if a number is given.
-/// Both texts are read whole, the network first, and the first fault decides: `which` is 0 for the network and 1 for the landmarks. Nodes of the
-/// landmarks are judged by the network's number of nodes.
+/// The network of a `.gr` text, with the landmarks of a `.ss` text, and with room for so many arcs, if a number is given. Both texts are read completely,
+/// the network first, and the first fault is the one reported: `which` is 0 for the network and 1 for the landmarks. Nodes of the landmarks are judged by
+/// the network's number of nodes.
 ///
-/// More than 1,000 landmarks are refused with 27, then want of memory outside the texts with 11, then a room that is none with 9. A failed read is fault
-/// 10 of the text and line being read: it is told only where the count of that text's failed calls rose. After an `Err` the texts are
-/// not used again.
+/// More than 1,000 landmarks are refused with 27, then lack of memory outside the texts with 11, then an unsuitable room with 9. A failed read is fault 10
+/// of the text and line being read. It is reported only if the count of failed calls of that text rose. After an `Err` the texts are not used again.
 fn read_planned<P: Text, Q: Text>(
     alloc: Global,
     gr: &mut P,
@@ -97,11 +96,11 @@ fn read_planned<P: Text, Q: Text>(
     planned(network, &landmarks, room).map_err(Failed::Code)
 }
 
-/// Makes a store of the network on an empty disk, with so many journal pages, 1 to 65,536, at version 0; then writes `ok 0` and sends it
-/// out. The disk is handed back.
+/// Makes a store of the network on an empty disk, with so many journal pages, 1 to 65,536, at version 0. Then it writes `ok 0` and sends it. The disk is
+/// handed back.
 ///
-/// Refused is a disk that is not empty (46), one that fails (43), and want of memory (11): nothing is written to `out` then, and at 46 and 11 the
-/// disk is as it was. A failed write is 12, and then the store is made.
+/// It is refused if the disk is not empty (46), if the disk fails (43), or for lack of memory (11). Then nothing is written to `out`, and at 46 and 11 the
+/// disk is as it was. A failed write is 12; then the store exists.
 fn create_store<D: Disk, W: Write>(
     alloc: Global,
     disk: D,
@@ -114,11 +113,11 @@ fn create_store<D: Disk, W: Write>(
     ensures made { D.honest disk → IfDone result.0 (IsNewStore network.now journal_pages (D.content result.1) (D.left result.1)) }
     ensures empty { D.honest disk → IfDone result.0 (D.content disk ≡ []) }
     ensures refused { IfErr result.0 IsOfMaking }
-    // 46 comes exactly where the disk isn't empty, 43 apart; 11 behind it.
+    // Apart from 43, 46 comes exactly when the disk is not empty, and 11 after it.
     ensures not_empty { D.honest disk → IfErr result.0 (λ failed. IfNotEmpty failed (D.content disk ≢ [])) }
     ensures order { D.honest disk → IfErr result.0 (λ failed. IfNoMemory failed (D.content disk ≡ [])) }
     ensures untouched { D.honest disk → IfErr result.0 (λ failed. IfNoDevice failed (StaysSame D.content D.left D.moment D.left_since disk result.1)) }
-    // The disk's count of failures rises where 43 is told, and for no other refusal but a failed write.
+    // The disk's count of failures rises if 43 is reported. At no other refusal does it rise, except perhaps at a failed write.
     ensures failed { CountsDevice (D.failures disk) (D.failures result.1) result.0 }
     ensures honest { D.honest result.1 ↔ D.honest disk }
     ensures told { OnOk result.0 (Appends (W.contents (writer_of out.old)) (W.contents (writer_of out.new)) (number_line (codes "ok ") 0)) }
@@ -136,7 +135,8 @@ fn create_store<D: Disk, W: Write>(
     (out.flush(), disk)
 }
 
-/// Makes a store on an empty disk, of the network of a `.gr` text with the landmarks of a `.ss` text, and writes `ok 0`. The texts are read whole, as by `read_planned`, before any call of the disk; then it is `create_store`.
+/// Makes a store on an empty disk, of the network of a `.gr` text with the landmarks of a `.ss` text, and writes `ok 0`. The texts are read completely, as
+/// by `read_planned`, before any call of the disk. Then it is `create_store`.
 pub fn create_text<D: Disk, P: Text, Q: Text, W: Write>(
     alloc: Global,
     disk: D,
@@ -154,12 +154,12 @@ pub fn create_text<D: Disk, P: Text, Q: Text, W: Write>(
         (λ landmarks. IsRefusedCreate network landmarks room (P.source gr.new) (Q.source ss.new) failed))) }
     ensures codes { IfErr result.0 (λ failed. IsOfNetwork failed ⊎ IsOfMaking failed) }
     ensures unread { IfErr result.0 (λ failed. IfOfTexts failed (result.1 ≡ disk)) }
-    // 46 comes exactly where the disk isn't empty, 43 apart; 11 where it is empty, or before any call of it.
+    // Apart from 43, 46 comes exactly when the disk is not empty, and 11 when it is empty, or before any call of it.
     ensures empty { D.honest disk → IfDone result.0 (D.content disk ≡ []) }
     ensures not_empty { D.honest disk → IfErr result.0 (λ failed. IfNotEmpty failed (D.content disk ≢ [])) }
     ensures order { D.honest disk → IfErr result.0 (λ failed. IfNoMemory failed ((D.content disk ≡ []) ⊎ (result.1 ≡ disk))) }
     ensures untouched { D.honest disk → IfErr result.0 (λ failed. IfNoDevice failed (StaysSame D.content D.left D.moment D.left_since disk result.1)) }
-    // The disk's count of failures rises where 43 is told, and for no other refusal but a failed write.
+    // The disk's count of failures rises if 43 is reported. At no other refusal does it rise, except perhaps at a failed write.
     ensures failed { CountsDevice (D.failures disk) (D.failures result.1) result.0 }
     ensures honest { D.honest result.1 ↔ D.honest disk }
     ensures told { OnOk result.0 (Appends (W.contents (writer_of out.old)) (W.contents (writer_of out.new)) (number_line (codes "ok ") 0)) }

@@ -1,4 +1,4 @@
-// A store's network, written out as texts.
+// A store's network, written as texts.
 ghost use Rattle.std.specs.Prelude.{OnOk};
 ghost use Rattle.printing.specs.Counting.{writer_of};
 ghost use Rattle.printing.specs.Writers.{Puts};
@@ -10,12 +10,11 @@ use printing::{CountedWriter, Exported, Failed, Origin, put_exported};
 use std::io::Write;
 use store::Store;
 
-/// Writes one of the texts in which the network of a store is written out (`printing::put_exported`), and sends it out. Its first line tells the store's
-/// version, its room and the pages of its journal. No call of the disk is made, and no memory is taken. A failed write is refused with 12; an unknown part is
-/// written then.
+/// Writes one of the texts of a store's network (`printing::put_exported`), and sends it. Its first line has the store's version, its room and the pages of
+/// its journal. It makes no call of the disk, and takes no memory. A failed write is refused with 12; then an unknown part was written.
 ///
-/// `create` with the network and the landmarks, with the store's room, and then `apply` with the closings make a store of the same network and the
-/// same landmarks.
+/// `create` with the network and the landmarks, with the store's room, and then `apply` with the closings make a store of the same network and the same
+/// landmarks.
 pub fn export_text<D: Disk, W: Write>(
     store: &Store<D>,
     text: Exported,
@@ -32,7 +31,7 @@ pub fn export_text<D: Disk, W: Write>(
     out.flush()
 }
 
-/// What holds of the texts in which a network is written out: they give it back.
+/// What holds of the texts of a network: they give it back.
 pub fn laws_of_exports()
     ensures restores { ExportRestores }
 {}

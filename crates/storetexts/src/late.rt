@@ -6,19 +6,19 @@ ghost use Rattle.storetexts.specs.Late.{standing, of_disk, holds_of, GivesKnown}
 use disk::{Disk, DiskError};
 use printing::Failed;
 
-/// Who makes a disk, or opens it, once it is needed.
+/// A value that makes a disk, or opens it, once it is needed.
 pub trait MakesDisk<D: Disk> {
-    /// The disk that it makes, where that is known. One of which nothing is known before does not keep the disk model.
+    /// The disk that it makes, if that is known. A disk of which nothing is known before does not keep the disk model.
     ghost makes: { Self → Option D };
 
-    /// Makes the disk, or tells why there is none. It is called once at most.
+    /// Makes the disk, or returns why there is none. It is called at most once.
     fn make(&mut self) -> Result<D, Failed>
         ensures makes { GivesKnown D.honest (makes self.old) result }
         ensures same { makes self.new ≡ makes self.old };
 }
 
-/// A disk that is made at the first call of it: a store's file that is to be opened or made behind what else is read. It is the disk that is made, and passes each call on to that.
-/// Where none is made that call fails, and each call behind it.
+/// A disk that is made at the first call of it: a store's file that is to be opened or made after everything else is read. It behaves as the disk that is
+/// made, and passes each call on to that. If none is made, that call fails, and so does each later one.
 #[derive(Drop)]
 pub struct LateDisk<M, D> {
     maker: M,
@@ -27,7 +27,7 @@ pub struct LateDisk<M, D> {
     failures: u64,
 }
 
-/// The outcome, whose failure is counted.
+/// The outcome. A failure is counted.
 fn counted<T>(failures: &mut u64, outcome: Result<T, DiskError>) -> Result<T, DiskError>
     ensures outcome { result ≡ outcome }
     ensures counted { failures.new ≡ failures_after outcome failures.old }
@@ -54,7 +54,8 @@ impl<M, D> LateDisk<M, D> {
         }
     }
 
-    /// What a call came to that had this disk: where none was made, the reason in place of the 43 that the call told. And who makes it, and the disk.
+    /// The outcome of a call that had this disk: if no disk was made, the reason for that in place of the 43 that the call reported. Also the maker, and
+    /// the disk.
     pub fn ended<T: Drop>(self, outcome: Result<T, Failed>) -> (Result<T, Failed>, M, Option<D>)
         ensures told { result.0 ≡ ended_by self.refused outcome }
         ensures parts { (result.1 ≡ self.maker) × (result.2 ≡ self.made) }
@@ -67,7 +68,7 @@ impl<M, D> LateDisk<M, D> {
 }
 
 impl<D: Disk + Drop, M: MakesDisk<D>> LateDisk<M, D> {
-    /// Makes the disk, where no call was made yet.
+    /// Makes the disk, unless a call was made before.
     fn see_made(&mut self)
         ensures stands { holds_of D.honest (standing self.old.made (M.makes self.old.maker)) → standing self.new.made (M.makes self.new.maker) ≡ standing self.old.made (M.makes self.old.maker) }
         ensures honest { holds_of D.honest (standing self.new.made (M.makes self.new.maker)) → holds_of D.honest (standing self.old.made (M.makes self.old.maker)) }

@@ -1,6 +1,6 @@
-//! Texts that run on a store: made from a network and its landmarks, changed by commands, asked for pairs and for tables of them. A store that is only
-//! looked at, or written out as texts. And one that is made of another store, of this format or the one before. The disk of a store that is made, or read for that, may be made
-//! late: at the first call of it.
+//! Texts that run on a store: it is made from a network and its landmarks, changed by commands, and asked for pairs and for tables of them. A store may
+//! also be only examined, or written as texts; or a store is made from another one, of this format or the previous one. The disk of a store that is made,
+//! or that is read for that, may be made late: at the first call of it.
 #![tactic(auto)]
 
 mod applying;

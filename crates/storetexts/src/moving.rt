@@ -1,4 +1,4 @@
-// A store made of another one: a copy, or one of the format before that is migrated.
+// A store made from another one: a copy, or one of the previous format that is migrated.
 ghost use Rattle.std.specs.Prelude.{◌≡◌, ◌≤◌, ◌↔◌, Err, None, [], OnOk, OnErr, IfOk, IfErr, MatchResult};
 ghost use Rattle.std.specs.Io.KnownBytes.{Appends};
 ghost use Rattle.std.specs.Option.{ForSome};
@@ -20,7 +20,7 @@ use std::alloc::Global;
 use std::io::Write;
 use store::{Store, copy, migrate};
 
-/// Tells of a store that was made, `ok V`, V its version, and sends it out; or of why none was. The disk is handed back.
+/// Reports a store that was made, with `ok V`, where V is its version, and sends that; or returns why none was made. The disk is handed back.
 fn tell_made<D: Disk, W: Write>(
     made: Result<Store<D>, (Refusal, D)>,
     out: &mut CountedWriter<'_, W>,
@@ -46,13 +46,13 @@ fn tell_made<D: Disk, W: Write>(
     (out.flush(), disk)
 }
 
-/// Makes a store on the empty disk `new` of the store on the disk `old`, at its version, with room for so many arcs and with so many journal pages, 1 to
-/// 65,536; where one of the two is not given, with as many as the old store has. Then it writes `ok V`, V the version, and sends it out. The new disk is
-/// handed back. The old one is read alone, and stays as it is.
+/// Makes a store on the empty disk `new`, of the store on the disk `old`, at its version, with room for so many arcs and with so many journal pages, 1 to
+/// 65,536. If one of the two is not given, it is that of the old store. Then it writes `ok V`, where V is the version, and sends it. The new disk is handed
+/// back. The old one is only read, and stays as it is.
 ///
-/// Refused, the first that holds, is a new disk that is not empty (46), what opening refuses of the old store (40 to 42), a room below the number of
-/// arcs or above 67,108,864 (9), and want of memory (11); a disk that fails is told as 43. The new disk is untouched then, but at 43, and nothing
-/// is written. A failed write (12) is told where the store is there, and its line could not be. After an `Err` the writer is not used again.
+/// It is refused, in this order, if the new disk is not empty (46), if opening refuses the old store (40 to 42), if the room is below the number of arcs or
+/// above 67,108,864 (9), or for lack of memory (11). A failing disk is reported as 43. Then, except at 43, the new disk is untouched, and nothing is
+/// written. A failed write (12) is reported if the store exists but its line could not be written. After an `Err` the writer is not used again.
 pub fn copy_text<O: Disk, D: Disk, W: Write>(
     alloc: Global,
     old: &mut O,
@@ -62,15 +62,16 @@ pub fn copy_text<O: Disk, D: Disk, W: Write>(
     out: &mut CountedWriter<'_, W>,
 ) -> (Result<(), Failed>, D)
     requires journal { ForSome journal (λ pages. (1 ≤ pages) × (pages ≤ 65536)) }
-    // The new content stands for the network of the old one, with its room, at its version, and is all that a stop may leave.
+    // The new content stands for the network of the old one, with its room, at its version, and a stop may leave nothing else.
     ensures made { O.honest old.old → D.honest new → IfDone result.0 (IsMoved two (O.content old.old) room journal (D.content result.1) (D.left result.1)) }
     ensures told { OnOk result.0 (TellsMoved two (O.honest old.old) (O.content old.old) (W.contents (writer_of out.old)) (W.contents (writer_of out.new))) }
-    // Each refusal rests on one disk: 46 on the new one, which is empty at each other but 43; 40 to 42, 9 and 11 on the old one. Whatever the disks, it is one of these, 43 or 12.
+    // Each refusal depends on one disk: 46 on the new one, which is empty at every other refusal except 43; 40 to 42, 9 and 11 on the old one. Whatever the
+    // disks, it is one of these, or 43 or 12.
     ensures refused_for_new { D.honest new → IfErr result.0 (IsRefusedForNew (D.content new)) }
     ensures refused_for_old { O.honest old.old → IfErr result.0 (IsRefusedForOld two (O.content old.old) room) }
     ensures codes { IfErr result.0 IsOfMove }
     ensures empty { D.honest new → IfDone result.0 (D.content new ≡ []) }
-    // Where 43 is told, one call of one of the disks has failed; and else none.
+    // If 43 is reported, one call of one of the disks has failed; otherwise none has.
     ensures counted { CountsMove (O.failures old.old) (O.failures old.new) (D.failures new) (D.failures result.1) result.0 }
     ensures untouched { O.honest old.old → StaysSame O.content O.left O.moment O.left_since old.old old.new }
     ensures same { D.honest new → IfErr result.0 (λ failed. IfNoDevice failed (StaysSame D.content D.left D.moment D.left_since new result.1)) }
@@ -82,14 +83,14 @@ pub fn copy_text<O: Disk, D: Disk, W: Write>(
     tell_made(made, out)
 }
 
-/// Makes a store on the empty disk `new` of the store of format 1 on the disk `old`, at its version and with its journal pages, and with room for so many
-/// arcs; where no number is given, for those that there are. Then it writes `ok V`, V the version, and sends it out. The new disk is handed back. The old
-/// one is read alone, and stays as it is.
+/// Makes a store on the empty disk `new`, of the store of format 1 on the disk `old`, at its version and with its journal pages, and with room for so many
+/// arcs. If no number is given, it has room for the arcs that there are. Then it writes `ok V`, where V is the version, and sends it. The new disk is
+/// handed back. The old one is only read, and stays as it is.
 ///
-/// Refused, the first that holds, is a new disk that is not empty (46), what opening refuses of the old store, where each format but 1 is another one
-/// (40 to 42), a room below the number of arcs or above 67,108,864 (9), and want of memory (11); a disk that fails is told as 43. The new disk is
-/// untouched then, but at 43, and nothing is written. A failed write (12) is told where the store is there, and its line could not be. After an
-/// `Err` the writer is not used again.
+/// It is refused, in this order, if the new disk is not empty (46), if opening refuses the old store, where each format except 1 is another format (40 to
+/// 42), if the room is below the number of arcs or above 67,108,864 (9), or for lack of memory (11). A failing disk is reported as 43. Then, except at 43,
+/// the new disk is untouched, and nothing is written. A failed write (12) is reported if the store exists but its line could not be written. After an `Err`
+/// the writer is not used again.
 pub fn migrate_text<O: Disk, D: Disk, W: Write>(
     alloc: Global,
     old: &mut O,
@@ -97,15 +98,16 @@ pub fn migrate_text<O: Disk, D: Disk, W: Write>(
     room: Option<u64>,
     out: &mut CountedWriter<'_, W>,
 ) -> (Result<(), Failed>, D)
-    // The new content stands for the network of the old one, with its room, at its version, and is all that a stop may leave.
+    // The new content stands for the network of the old one, with its room, at its version, and a stop may leave nothing else.
     ensures made { O.honest old.old → D.honest new → IfDone result.0 (IsMoved one (O.content old.old) room None (D.content result.1) (D.left result.1)) }
     ensures told { OnOk result.0 (TellsMoved one (O.honest old.old) (O.content old.old) (W.contents (writer_of out.old)) (W.contents (writer_of out.new))) }
-    // Each refusal rests on one disk: 46 on the new one, which is empty at each other but 43; 40 to 42, 9 and 11 on the old one. Whatever the disks, it is one of these, 43 or 12.
+    // Each refusal depends on one disk: 46 on the new one, which is empty at every other refusal except 43; 40 to 42, 9 and 11 on the old one. Whatever the
+    // disks, it is one of these, or 43 or 12.
     ensures refused_for_new { D.honest new → IfErr result.0 (IsRefusedForNew (D.content new)) }
     ensures refused_for_old { O.honest old.old → IfErr result.0 (IsRefusedForOld one (O.content old.old) room) }
     ensures codes { IfErr result.0 IsOfMove }
     ensures empty { D.honest new → IfDone result.0 (D.content new ≡ []) }
-    // Where 43 is told, one call of one of the disks has failed; and else none.
+    // If 43 is reported, one call of one of the disks has failed; otherwise none has.
     ensures counted { CountsMove (O.failures old.old) (O.failures old.new) (D.failures new) (D.failures result.1) result.0 }
     ensures untouched { O.honest old.old → StaysSame O.content O.left O.moment O.left_since old.old old.new }
     ensures same { D.honest new → IfErr result.0 (λ failed. IfNoDevice failed (StaysSame D.content D.left D.moment D.left_since new result.1)) }

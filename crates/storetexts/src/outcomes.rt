@@ -1,11 +1,11 @@
-// What groups come to.
+// The outcomes of groups.
 ghost use Rattle.std.specs.Prelude.{◌≡◌};
 ghost use Rattle.storetexts.specs.Outcomes.{reply_of};
 
 use machine::Replied;
 use roadnet::Refusal;
 
-/// What a group came to.
+/// The outcome of a group.
 #[derive(Clone, Copy, Debug, PartialEq, Eq)]
 pub enum Outcome {
     /// It was accepted as this number, the version that it leads to.
@@ -14,7 +14,7 @@ pub enum Outcome {
     Refused { refusal: Refusal },
 }
 
-/// How the outcome is told, once the group is durable: as a version that is durable, or as a refusal.
+/// How the outcome is reported, once the group is durable: as a durable version, or as a refusal.
 pub(crate) fn reply_of(outcome: Outcome) -> Replied
     ensures { result ≡ reply_of outcome }
 {

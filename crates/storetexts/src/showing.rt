@@ -1,4 +1,4 @@
-// The arcs of a store's network, looked at.
+// The arcs of a store's network, examined.
 ghost use Rattle.std.specs.Prelude.{◌↔◌, OnOk, IfErr};
 ghost use Rattle.disk.specs.Contents.{Only};
 ghost use Rattle.disk.specs.Moments.{StaysSame};
@@ -17,7 +17,7 @@ use std::alloc::Global;
 use std::io::Write;
 use store::open;
 
-/// The version and the answer line, which are sent out.
+/// The version and the answer line, sent.
 fn put_shown<W: Write>(
     out: &mut CountedWriter<'_, W>,
     network: &Network,
@@ -30,12 +30,12 @@ fn put_shown<W: Write>(
     out.flush()
 }
 
-/// Opens the store on a disk, and writes its version, `v V`, and the answer line to a look at the arcs of its network (`printing::put_look`).
-/// Nothing is written to the disk, which is handed back.
+/// Opens the store on a disk, and writes its version, `v V`, and the answer to a look at the arcs of its network (`printing::put_look`). Nothing is written
+/// to the disk, which is handed back.
 ///
-/// Refused is what is refused on opening: no store (40), another format (41), a damaged page (42), a disk that fails (43), want of memory (11), that
-/// only behind a header that fits the file. Nothing is written then. 43 is told only where the disk's count of failures rose. A failed write is 12,
-/// told only where the count of the writer's failed calls rose; the writer is not used again then.
+/// It is refused as opening is: for a file that is not a store (40), another format (41), a damaged page (42), a failing disk (43), or, only if the header
+/// fits the file, lack of memory (11). Then nothing is written. 43 is reported only if the disk's count of failures rose. A failed write is 12, and is
+/// reported only if the count of the writer's failed calls rose; then the writer is not used again.
 pub fn show_text<D: Disk, W: Write>(
     alloc: Global,
     disk: D,
@@ -46,11 +46,11 @@ pub fn show_text<D: Disk, W: Write>(
     ensures answered { OnOk result.0 (IsShown (D.honest disk) (D.content disk) look (W.contents (writer_of out.old)) (W.contents (writer_of out.new))) }
     ensures refused { IfErr result.0 (IsRefusedShow (D.honest disk) (D.content disk)) }
     ensures order { D.honest disk → IfErr result.0 (λ failed. IfNoMemory failed (HeaderFits (D.content disk))) }
-    // The disk's count of failures rises where 43 is told, and for no other refusal but a failed write.
+    // The disk's count of failures rises if 43 is reported. At no other refusal does it rise, except perhaps at a failed write.
     ensures failed { CountsDevice (D.failures disk) (D.failures result.1) result.0 }
     // Nothing is written to the disk.
     ensures untouched { D.honest disk → StaysSame D.content D.left D.moment D.left_since disk result.1 }
-    // What is told no stop takes back.
+    // No stop takes back what is printed.
     ensures at_rest { D.honest disk → OnOk result.0 (Only (D.content result.1) (D.left result.1)) }
     ensures honest { D.honest result.1 ↔ D.honest disk }
     ensures unwritten { IfErr result.0 (LeavesUnwritten (writer_of out.old) (writer_of out.new)) }

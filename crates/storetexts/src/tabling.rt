@@ -58,18 +58,17 @@ fn table_of<T: Threads, D: Disk, W: Write>(
     (answered, store.close())
 }
 
-/// Opens the store on a disk, and writes its version and a right answer to each pair of a node that one `.ss` text lists and one that another
-/// lists, source by source, in the order of the lines of the two texts. The store is opened first, then the texts are read whole, the sources before the
-/// targets, then the answers are written. Nodes are judged by the store's network. Nothing is written to the disk, which is handed back.
+/// Opens the store on a disk, and writes its version and a right answer to each pair of a node that one `.ss` text lists and one that another lists, source
+/// by source, in the order of the lines of the two texts. The store is opened first, then the texts are read completely, the sources before the targets,
+/// then the answers are written. Nodes are judged by the store's network. Nothing is written to the disk, which is handed back.
 ///
-/// Refused is what is refused on opening: no store (40), another format (41), a damaged page (42), a disk that fails (43), want of memory
-/// (11); then a fault of the sources, `which` 0, then one of the targets, `which` 1; then want of memory for all replies (11). Nothing is written then. 43 is
-/// told only where the disk's count of failures rose. A failed read is fault 10
-/// of the text and line being read, and a failed write is 12: both are told only where the count of that text's or the writer's failed calls rose.
-/// After an `Err` texts and writer are not used again.
+/// It is refused as opening is: for a file that is not a store (40), another format (41), a damaged page (42), a failing disk (43), or lack of memory (11);
+/// then for a fault of the sources, `which` 0, then for one of the targets, `which` 1; then for lack of memory for all replies (11). Then nothing is
+/// written. 43 is reported only if the disk's count of failures rose. A failed read is fault 10 of the text and line being read, and a failed write is 12.
+/// Both are reported only if the count of failed calls of that text or of the writer rose. After an `Err` the texts and the writer are not used again.
 ///
-/// `delta` is the width of a search's buckets, 1 to 2147483647: every width gives the same answers; without one it is the network's
-/// default. Each source is searched once, or each target, where these are fewer, as `answer_table` does it.
+/// `delta` is the width of a search's buckets, 1 to 2147483647. Every width gives the same answers. Without one it is the network's default. Each source is
+/// searched once, or each target if there are fewer targets, as by `answer_table`.
 pub fn ask_table_text<T: Threads, D: Disk, P: Text, Q: Text, W: Write>(
     rt: &T,
     alloc: Global,
@@ -81,17 +80,17 @@ pub fn ask_table_text<T: Threads, D: Disk, P: Text, Q: Text, W: Write>(
 ) -> (Result<Done, Failed>, D)
     requires { ForSome delta IsWidth }
     ensures width { IfOk result.0 (λ done. told_width done ≡ delta) }
-    // Over any disk the answers are right in the network of the store that was opened.
+    // On any disk the answers are right in the network of the store that was opened.
     ensures answered { OnOk result.0 (IfSome (P.bytes sources.old) (λ from. IfSome (Q.bytes targets.old)
         (λ to. IsTableAsked (D.honest disk) (D.content disk) from to (W.contents (writer_of out.old)) (W.contents (writer_of out.new))))) }
     ensures refused { IfErr result.0 (λ failed. IfSome (P.bytes sources.old) (λ from. IfSome (Q.bytes targets.old)
         (λ to. IsRefusedTable (D.honest disk) (D.content disk) from to (P.source sources.new) (Q.source targets.new) failed))) }
     ensures codes { IfErr result.0 IsOfTwoTexts }
-    // Want of memory is told only where the header fits the file.
+    // Lack of memory is reported only if the header fits the file.
     ensures order { D.honest disk → IfErr result.0 (λ failed. IfNoMemory failed (HeaderFits (D.content disk))) }
-    // What is answered no stop takes back.
+    // No stop takes back what is answered.
     ensures at_rest { D.honest disk → OnOk result.0 (Only (D.content result.1) (D.left result.1)) }
-    // The disk's count of failures rises where 43 is told, and for no other refusal but a failed write.
+    // The disk's count of failures rises if 43 is reported. At no other refusal does it rise, except perhaps at a failed write.
     ensures failed { CountsDevice (D.failures disk) (D.failures result.1) result.0 }
     // Nothing is written to the disk.
     ensures untouched { D.honest disk → StaysSame D.content D.left D.moment D.left_since disk result.1 }

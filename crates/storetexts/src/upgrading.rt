@@ -24,10 +24,10 @@ const OLD: u8 = 0;
 
 const NEW: u8 = 1;
 
-/// The maps of two `.gr` texts: the old one, and the new one with room for so many arcs, if a number is given. Both texts are read whole,
-/// the old one first, and the first fault decides: `which` is 0 for the old map and 1 for the new one; then a room that is none for the new one is
-/// refused with 9. A failed read is fault 10 of the text and line being read: it is told only where the count of that text's failed calls rose.
-/// After an `Err` the texts are not used again.
+/// The maps of two `.gr` texts: the old one, and the new one with room for so many arcs, if a number is given. Both texts are read completely, the old one
+/// first, and the first fault is the one reported: `which` is 0 for the old map and 1 for the new one. Then a room that does not suit the new map is
+/// refused with 9. A failed read is fault 10 of the text and line being read. It is reported only if the count of failed calls of that text rose. After an
+/// `Err` the texts are not used again.
 fn read_maps<P: Text, Q: Text>(
     alloc: Global,
     before: &mut P,
@@ -50,7 +50,7 @@ fn read_maps<P: Text, Q: Text>(
     }
 }
 
-/// The pages of a store's journal: 1 to 65,536, of each disk that keeps the disk model.
+/// The pages of a store's journal, brought into 1 to 65,536. On a disk that keeps the disk model they are in that range.
 fn fit_pages(pages: u32) -> u32
     ensures some { 1 ≤ result }
     ensures few { result ≤ 65536 }
@@ -65,11 +65,11 @@ fn fit_pages(pages: u32) -> u32
     pages
 }
 
-/// Opens the store on a disk, and gives its network, which was made of the map `old`, brought to the map `new`, which has no landmarks; then what
-/// became of arcs and landmarks, and the pages of its journal. Nothing is written to the disk, which is handed back.
+/// Opens the store on a disk. Returns its network, which was made from the map `old`, brought to the map `new`, which has no landmarks; then what became of
+/// arcs and landmarks, and the pages of its journal. Nothing is written to the disk, which is handed back.
 ///
-/// Refused is what is refused on opening: no store (40), another format (41), a damaged page (42), a disk that fails (43), want of memory (11); then
-/// an old map that is not that of which the store's network was made (52), and want of memory (11).
+/// It is refused as opening is: for a file that is not a store (40), another format (41), a damaged page (42), a failing disk (43), or lack of memory (11);
+/// then if the store's network was not made from the old map (52), and for lack of memory (11).
 fn upgrade_stored<O: Disk>(
     alloc: Global,
     stored: O,
@@ -106,7 +106,7 @@ fn put_arc_counts<W: Write>(out: &mut CountedWriter<'_, W>, counts: Counts) -> R
     put_numbered(out, b"doubtful ", counts.doubtful)
 }
 
-/// The same, and `landmarks gone L` and `ok 0`.
+/// The counts of arcs, and then `landmarks gone L` and `ok 0`.
 fn put_upgrade<W: Write>(out: &mut CountedWriter<'_, W>, counts: Counts) -> Result<(), Failed>
     ensures { Puts W.contents (upgrade_lines counts) result out.old out.new }
 {
@@ -115,11 +115,11 @@ fn put_upgrade<W: Write>(out: &mut CountedWriter<'_, W>, counts: Counts) -> Resu
     put_numbered(out, b"ok ", 0)
 }
 
-/// Makes a store of the network on an empty disk, with so many journal pages, 1 to 65,536, at version 0; then writes the counts' lines and `ok 0`,
-/// and sends them out. The disk is handed back.
+/// Makes a store of the network on an empty disk, with so many journal pages, 1 to 65,536, at version 0. Then it writes the counts' lines and `ok 0`, and
+/// sends them. The disk is handed back.
 ///
-/// Refused is a disk that is not empty (46), one that fails (43), and want of memory (11): nothing is written to `out` then, and at 46 and 11 the
-/// disk is as it was. A failed write is 12, and then the store is made.
+/// It is refused if the disk is not empty (46), if the disk fails (43), or for lack of memory (11). Then nothing is written to `out`, and at 46 and 11 the
+/// disk is as it was. A failed write is 12; then the store exists.
 fn make_upgraded<D: Disk, W: Write>(
     alloc: Global,
     disk: D,
@@ -153,14 +153,14 @@ fn make_upgraded<D: Disk, W: Write>(
     (out.flush(), disk)
 }
 
-/// Makes a store on the empty disk `new` of the store on the disk `stored`, brought from the old map, of which that was made, to the new one, with
-/// room for so many arcs, if a number is given, and with as many journal pages; then it writes the lines of what became of arcs and landmarks, and
-/// `ok 0`, and sends them out. Both disks are handed back; the stored one is read alone, and stays as it is.
+/// Makes a store on the empty disk `new`, of the store on the disk `stored`, brought from the old map, from which that was made, to the new one, with room
+/// for so many arcs, if a number is given, and with as many journal pages. Then it writes the lines about what became of arcs and landmarks, and `ok 0`,
+/// and sends them. Both disks are handed back. The stored one is only read, and stays as it is.
 ///
-/// Refused, the first that holds, is a fault of the text of the old map, `which` 0, or of the new one, `which` 1; a room that is none for the new map
-/// (9); what is refused on opening the store (40 to 42); an old map that is not that of which it was made (52); a new disk that is not empty (46). A
-/// disk that fails is told as 43, want of memory as 11. Nothing is written then, and the new disk is untouched, but at 43. A failed write (12) is
-/// told where the store is there, and its lines could not be. After an `Err` the texts and the writer are not used again.
+/// It is refused, in this order, for a fault of the text of the old map, `which` 0, or of the new one, `which` 1; for a room that does not suit the new map
+/// (9); if opening refuses the store (40 to 42); if the store was not made from the old map (52); or if the new disk is not empty (46). A failing disk is
+/// reported as 43, lack of memory as 11. Then nothing is written, and, except at 43, the new disk is untouched. A failed write (12) is reported if the
+/// store exists but its lines could not be written. After an `Err` the texts and the writer are not used again.
 pub fn upgrade_text<O: Disk, D: Disk, P: Text, Q: Text, W: Write>(
     alloc: Global,
     stored: O,
@@ -179,7 +179,7 @@ pub fn upgrade_text<O: Disk, D: Disk, P: Text, Q: Text, W: Write>(
         (λ second. IsRefusedUpgrade (O.honest stored) (O.content stored) first second room
         (P.source before.new) (Q.source after.new) failed))) }
     ensures empty { D.honest new → IfDone result.0 (D.content new ≡ []) }
-    // 46 comes only where the new disk isn't empty; 11 where it is, or before any call of it.
+    // 46 comes only if the new disk is not empty; 11 if it is empty, or before any call of it.
     ensures not_empty { D.honest new → IfErr result.0 (λ failed. IfNotEmpty failed (D.content new ≢ [])) }
     ensures order { D.honest new → IfErr result.0 (λ failed. IfNoMemory failed ((D.content new ≡ []) ⊎ (result.2 ≡ new))) }
     ensures untouched { O.honest stored → StaysSame O.content O.left O.moment O.left_since stored result.1 }

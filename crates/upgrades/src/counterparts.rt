@@ -1,4 +1,4 @@
-// The counterparts of a map's arcs, found by two sorted lists of numbers side by side.
+// The counterparts of a map's arcs, found by reading two sorted lists of numbers side by side.
 
 ghost use Rattle.std.specs.Prelude.{◌≡◌, ℕ, ◌≤◌, ◌<◌, All, length, slice_index, IfOk, if◌then◌else◌};
 ghost use Rattle.roadnet.specs.Net.{IsNetwork};
@@ -10,7 +10,7 @@ use crate::ordered::{end_of, first_from, has_pair_at, pair_at};
 use roadnet::{Network, OutOfMemory};
 use std::alloc::Global;
 
-/// The number of the stored arc that has the place of the i-th of these parallel arcs of the map, or 0 where the two have not as many.
+/// The number of the stored arc at the place of the i-th of these parallel arcs of the map, or 0 if the two do not have equally many.
 fn part_in(group: &[u32], stored: &[u32], i: usize) -> u32
     requires { i < length group.now }
     ensures { result ≡ part_in group.now stored.now i }
@@ -22,7 +22,7 @@ fn part_in(group: &[u32], stored: &[u32], i: usize) -> u32
     }
 }
 
-/// Writes at the number of each of these parallel arcs of the map that of its counterpart, or 0.
+/// For each of these parallel arcs of the map, writes the number of its counterpart, or 0, at the arc's number.
 fn put_group(parts: &mut Vec<u32>, group: &[u32], stored: &[u32])
     requires { All (λ k. k < length parts.old.items) group.now }
     ensures kept { (part : ℕ → ℕ) → SaysParts group.now stored.now part → (k : ℕ) → slice_index parts.old.items k ≡ part k → slice_index parts.new.items k ≡ part k }
@@ -35,8 +35,8 @@ fn put_group(parts: &mut Vec<u32>, group: &[u32], stored: &[u32])
     }
 }
 
-/// The counterparts of the arcs of the map `new` among those of the network `stored`, at their numbers, by the numbers of both by their ends. The one error is want of
-/// memory, for 4 bytes an arc of the map.
+/// For each arc of the map `new`, the number of its counterpart in the network `stored`, given the numbers of both sorted by their ends. The only error is
+/// lack of memory, for 4 bytes an arc of the map.
 pub fn counterparts(
     alloc: Global,
     stored: &Network,
@@ -63,7 +63,7 @@ pub fn counterparts(
     Ok(parts)
 }
 
-/// 0 where there is something, else 1.
+/// 0 if there is something, otherwise 1.
 fn one_unless(found: bool) -> u64
     ensures value { result ≡ (if found then 0 else 1) }
     ensures few { result ≤ 1 }
@@ -71,7 +71,7 @@ fn one_unless(found: bool) -> u64
     if found { 0 } else { 1 }
 }
 
-/// How many arcs of a network have ends that no arc of the other has, by the numbers of both by their ends.
+/// How many arcs of a network have ends that no arc of the other has, given the numbers of both sorted by their ends.
 pub fn count_alone(network: &Network, numbers: &[u32], other: &Network, others: &[u32]) -> u64
     requires network { IsNetwork network.now }
     requires other { IsNetwork other.now }

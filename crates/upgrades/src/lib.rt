@@ -1,4 +1,4 @@
-//! A stored network brought to a new map of its roads, so that what was changed in it stays.
+//! A stored network brought to a new map of its roads, so that the changes made in it stay.
 #![tactic(auto)]
 
 mod counterparts;

@@ -1,4 +1,4 @@
-// Whether a network was made of a map.
+// Whether a network was made from a map.
 
 ghost use Rattle.std.specs.Prelude.{◌≡◌, ◌==◌, ◌&&◌, MatchBool};
 ghost use Rattle.roadnet.specs.Ends.{KeepsEnds};
@@ -26,7 +26,8 @@ fn keeps_ends_at(map: &Network, network: &Network, number: u64) -> bool
     have_same_ends(&arc, &other)
 }
 
-/// Whether the network was made of the map: it has its nodes, and its arcs with the same ends under the same numbers, and maybe more.
+/// Whether the network was made from the map: it has the same nodes, and each arc of the map under the same number with the same ends. It may have more
+/// arcs.
 pub fn was_made_of(network: &Network, map: &Network) -> bool
     ensures { MatchBool result (KeepsEnds map.now network.now) (¬ KeepsEnds map.now network.now) }
 {

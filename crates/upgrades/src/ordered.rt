@@ -1,4 +1,4 @@
-// Numbers of arcs, sorted so that parallel arcs stand side by side.
+// Numbers of arcs, sorted so that parallel arcs are side by side.
 
 ghost use Rattle.std.specs.Prelude.{◌≡◌, ℕ, ◌≤◌, ◌<◌, ◌+◌, ◌*◌, ◌≢◌, ◌==◌, ◌&&◌, nat_lt, length, slice_index, IfOk};
 ghost use Rattle.roadnet.specs.Net.{IsNetwork};
@@ -7,7 +7,7 @@ ghost use Rattle.upgrades.specs.Ordered.{pair_at, AreByEnds};
 use roadnet::{Network, OutOfMemory};
 use std::alloc::Global;
 
-/// The ends of arc `number` as one number, ascending by tail and then by head; 0 where there is no such arc.
+/// The ends of arc `number` as one number, ascending by tail and then by head; 0 if there is no such arc.
 pub fn pair_at(network: &Network, number: u32) -> u64
     ensures { result ≡ pair_at network.now.arcs number }
 {
@@ -24,7 +24,7 @@ fn rank_of(network: &Network, number: u32) -> u128
     u128::from(pair_at(network, number)) * 4294967296 + u128::from(number)
 }
 
-/// The numbers of the arcs, ascending by tail, head and number. The one error is want of memory, for 4 bytes an arc.
+/// The numbers of the arcs, ascending by tail, head and number. The only error is lack of memory, for 4 bytes an arc.
 pub fn numbers_by_ends(alloc: Global, network: &Network) -> Result<Vec<u32>, OutOfMemory>
     ensures sorted { IfOk result (λ numbers. AreByEnds network.now.arcs numbers.items) }
     ensures network { IsNetwork network.now }
@@ -40,7 +40,7 @@ pub fn numbers_by_ends(alloc: Global, network: &Network) -> Result<Vec<u32>, Out
     Ok(numbers)
 }
 
-/// The first place from `from` on whose arc has no lower ends than `pair`; behind the last one where there is none.
+/// The first place, from `from` on, whose arc does not have lower ends than `pair`; if there is none, the place after the last one.
 pub fn first_from(network: &Network, numbers: &[u32], from: usize, pair: u64) -> usize
     requires { from ≤ length numbers.now }
     ensures after { from ≤ result }
@@ -56,7 +56,7 @@ pub fn first_from(network: &Network, numbers: &[u32], from: usize, pair: u64) ->
     numbers.len()
 }
 
-/// The first place from `from` on whose arc has other ends than `pair`; behind the last one where there is none.
+/// The first place, from `from` on, whose arc has other ends than `pair`; if there is none, the place after the last one.
 pub fn end_of(network: &Network, numbers: &[u32], from: usize, pair: u64) -> usize
     requires { from ≤ length numbers.now }
     ensures after { from ≤ result }

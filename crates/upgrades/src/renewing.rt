@@ -1,4 +1,4 @@
-// What the arcs of a map become by their counterparts. Commands that are admitted change them, which takes no memory.
+// What becomes of the arcs of a map, given their counterparts. Admitted commands change them, which takes no memory.
 
 ghost use Rattle.std.specs.Prelude.{◌≡◌, ◌≤◌, ℕ, IfOk, IsOk, option_map};
 ghost use Rattle.roadnet.specs.Changes.{ChangesArc};
@@ -45,7 +45,7 @@ fn set_opened(network: &mut Network, number: u64, opened: bool) -> Result<(), Re
     Ok(())
 }
 
-/// Whether nobody changed the stored arc's length: it is that of the same arc of the old map, if that has it.
+/// Whether nobody changed the stored arc's length: it is that of the same arc of the old map, if there is one.
 fn is_unchanged(stored: &RoadArc, old: Option<RoadArc>) -> bool
     ensures { result ≡ is_unchanged stored.now old }
 {
@@ -73,7 +73,7 @@ fn renew_length(
     Ok(())
 }
 
-/// Renews an arc of the map by stored arc `part`, if there are both, and the same arc of the old map.
+/// Renews an arc of the map by stored arc `part`, if there are both, and by the same arc of the old map.
 fn renew(
     network: &mut Network,
     number: u64,

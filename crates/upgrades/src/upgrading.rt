@@ -17,7 +17,7 @@ use crate::renewing::renew_all;
 use roadnet::{Command, Network, OutOfMemory, Refusal};
 use std::alloc::Global;
 
-/// Marks a node that is no landmark yet, if there is such a node. The one refusal is want of memory (11).
+/// Makes a node a landmark unless it is one, if there is such a node. The only refusal is lack of memory (11).
 fn mark_node(network: &mut Network, node: u64) -> Result<(), Refusal>
     requires fresh { is_landmark network.old node ≡ false }
     requires few { length network.old.landmarks < most_landmarks }
@@ -31,7 +31,8 @@ fn mark_node(network: &mut Network, node: u64) -> Result<(), Refusal>
     Ok(())
 }
 
-/// The network, which has no landmark, with those of these landmarks, which ascend, that are nodes of it; and how many are none. The one refusal is want of memory (11).
+/// Adds to the network, which has no landmark, those of these ascending landmarks that are nodes of it. Also returns how many are not. The only refusal is
+/// lack of memory (11).
 fn mark_all(network: Network, landmarks: &[u32]) -> Result<(Network, u64), Refusal>
     requires bare { network.landmarks ≡ [] }
     requires ascending { IsStrictlyIncreasing landmarks.now }
@@ -56,7 +57,7 @@ fn count_found(parts: &[u32]) -> u64
     parts.iter().skip(1).filter(|part| **part != 0).count() as u64
 }
 
-/// What becomes of the arcs, by the numbers of both networks by their ends and by the counterparts of the map's. Landmarks are not counted.
+/// What becomes of the arcs, given the numbers of both networks sorted by their ends and the counterparts of the map's arcs. Landmarks are not counted.
 fn count_arcs(
     stored: &Network,
     before: &[u32],
@@ -85,7 +86,8 @@ fn count_arcs(
     }
 }
 
-/// The counterparts of the map's arcs, and what becomes of the arcs. The one error is want of memory, for 4 bytes an arc of the network and 8 an arc of the map.
+/// The counterparts of the map's arcs, and what becomes of the arcs. The only error is lack of memory, for 4 bytes an arc of the network and 8 an arc of
+/// the map.
 fn matched(
     alloc: Global,
     stored: &Network,
@@ -102,14 +104,14 @@ fn matched(
     Ok((parts, counts))
 }
 
-/// The network `stored`, which was made of the map `old`, brought to the map `new`, which has no landmarks; and what became of arcs and landmarks.
+/// The network `stored`, which was made from the map `old`, brought to the map `new`, which has no landmarks; and what became of arcs and landmarks.
 ///
-/// An arc is the same where its ends and its place among the parallel ones are, and stored network and map have as many of these. It takes the map's length where its
-/// length in the store is that of the old map, else it keeps that of the store; it is closed where it is closed in the store. Each other arc stands as in the map. The
-/// landmarks are those of the store that are nodes of the map; the room is the map's.
+/// Two arcs are the same if they have the same ends and the same place among the parallel ones, and if the stored network and the map have equally many of
+/// these. Such an arc takes the map's length if its length in the store is that of the old map; otherwise it keeps the store's. It is closed if it is
+/// closed in the store. Every other arc is as in the map. The landmarks are those of the store that are nodes of the map. The room is the map's.
 ///
-/// Refused is an old map that is not that of which the network was made (52): another number of nodes, or an arc that the network has with other ends, or not at all; and
-/// want of memory (11), for 4 bytes an arc of the network, 8 an arc of the map, and the landmarks. It takes time as a sort of the arcs.
+/// It fails with 52 if the network was not made from the old map: it has another number of nodes, or an arc of the map is missing or has other ends in it.
+/// It fails with 11 for lack of memory, for 4 bytes an arc of the network, 8 an arc of the map, and the landmarks. It takes the time of a sort of the arcs.
 pub fn upgraded(
     alloc: Global,
     stored: &Network,

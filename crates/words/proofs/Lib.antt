@@ -1,2 +1,3 @@
 mod InputTwice
+mod Parts
 pub mod PipeNames

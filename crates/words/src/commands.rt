@@ -99,65 +99,144 @@ pub const SHOW: &str = "show";
 pub const EXPORT: &str = "export";
 
 const ABOUT: &str =
-    "Exact least distances in a road network, which may be kept in a store: a file that survives a power cut.
+    "Exact shortest-path lengths in a road network. A store keeps the network in a file that survives a power cut.
 
-Without a word it reads the joint form from standard input: a .gr text, a line `run`, and a script, which it runs on a store in memory.
+Without a subcommand it reads a .gr text, a line `run` and a script from standard input, and runs the script on a store in memory.
 
-The exit status is 0 where all was done, 1 after a fault, 2 where the words were not understood, and 3 where a server has taken all commands of one run.";
+The exit status is 0 if everything was done, 1 after a fault, 2 if the arguments are not understood, and 3 if a server accepted nearly all commands of one run.";
 
 const ABOUT_ONCE: &str =
-    "Prints the least length of a walk from S to T in the network of the file GR: the lines `v 0` and `d S T LENGTH`, `x S T` where no walk leads there, or `no 24` where S or T is no node.";
+    "Prints the length of a shortest walk from S to T in the network of the file GR: the line `v 0`, then `d S T LENGTH`, or `x S T` if no walk leads there, or `no 24` if S or T is not a node.";
 
 const ABOUT_BATCH: &str =
-    "Answers the pairs of the file P2P in the network of the file GR: the line `v 0`, then one line a pair, in their order: `d S T LENGTH`, or `x S T` where no walk leads there. With --from and --to, and without P2P, the pairs are a table: each node that the one file lists with each that the other lists, source by source, in the order of their lines.";
+    "Answers the pairs of the file P2P in the network of the file GR. It prints the line `v 0`, then one line for each pair, in their order: `d S T LENGTH`, or `x S T` if no walk leads there.
+
+With --from and --to, and without P2P, the pairs are a table: each source with each target, source by source, in the order of these two files.";
 
 const ABOUT_REACH: &str =
-    "Prints which nodes walks from S reach in the network of the file GR: the line `v 0`, then one line a node, ascending: `d S T LENGTH`, the least length of a walk from S to that node T. S itself is one of them. With --within those alone whose length is at most L, else all to which a walk leads. Where S is no node it prints `v 0` and `no 24`.";
+    "Prints the nodes to which walks from S lead in the network of the file GR: the line `v 0`, then one line for each node T, in ascending order: `d S T LENGTH`, with the length of a shortest walk from S to T. S itself is one of these nodes. With --within it prints only the lines whose LENGTH is at most L. If S is not a node, it prints `v 0` and `no 24`.";
 
 const ABOUT_REACHED: &str =
-    "Prints from which nodes walks reach T in the network of the file GR: the line `v 0`, then one line a node, ascending: `d S T LENGTH`, the least length of a walk from that node S to T. T itself is one of them. With --within those alone whose length is at most L, else all from which a walk leads there. Where T is no node it prints `v 0` and `no 24`.";
+    "Prints the nodes from which walks lead to T in the network of the file GR: the line `v 0`, then one line for each node S, in ascending order: `d S T LENGTH`, with the length of a shortest walk from S to T. T itself is one of these nodes. With --within it prints only the lines whose LENGTH is at most L. If T is not a node, it prints `v 0` and `no 24`.";
 
 const ABOUT_REHEARSE: &str =
-    "Makes a store in memory for the network of the file GR, runs the script of the file SCRIPT on it, and prints the lines of its events: commands, groups of them between `begin` and `end`, flushes, checkpoints, queries (`dist S T`, `from X T`, `lower S T`), and stops as a power cut makes them. No file is written.";
+    "Makes a store in memory for the network of the file GR, runs the script of the file SCRIPT on it, and prints the answers to its lines. No file is written.
+
+A script has commands, groups of commands between `begin` and `end`, flushes, checkpoints, views (`task`, `publish`), queries (`dist S T`, `from X T`, `lower S T`) and stops, which are power cuts.";
 
 const ABOUT_CREATE: &str =
-    "Makes a store in the file STORE, which is absent or empty: it holds the network of the file GR with the landmarks of the file SS, at version 0. It prints `ok 0` once the store is there for good.";
+    "Makes a store in the file STORE, which is absent or empty. The store has the network of the file GR and the landmarks of the file SS, at version 0. It prints `ok 0` once the store is durable.";
 
 const ABOUT_APPLY: &str =
-    "Applies the commands of the file COMMANDS to the store in the file STORE, and prints one line a group, in their order: `ok N`, once the group is version N of the store for good, or `no CODE` where it is refused. The lines `begin` and `end` enclose the commands of a group, of which all are carried out or none; a command elsewhere is a group of its own.";
+    "Carries out the commands of the file COMMANDS on the store in the file STORE. For each command or group, in their order, it prints `ok N` once it is durable as version N, or `no CODE` if it is refused.
+
+The lines `begin` and `end` enclose a group of 1 to 253 commands: all are carried out, or none.";
 
 const ABOUT_ASK: &str =
-    "Answers the pairs of the file P2P in the network of the store in the file STORE, which stays as it is: the line `v V`, V the store's version, then one line a pair, in their order: `d S T LENGTH`, or `x S T` where no walk leads there. With --from and --to, and without P2P, the pairs are a table: each node that the one file lists with each that the other lists, source by source, in the order of their lines.";
+    "Answers the pairs of the file P2P in the network of the store in the file STORE. It prints the line `v V`, with the version V of the store, then one line for each pair, in their order: `d S T LENGTH`, or `x S T` if no walk leads there. The store stays as it is.
+
+With --from and --to, and without P2P, the pairs are a table: each source with each target, source by source, in the order of these two files.";
 
 const ABOUT_CHECK: &str =
-    "Looks at the store in the file STORE, which stays as it is, and tells how it stands: `v V`, its version; `slot A E` or `slot B E`, the slot that holds its last checkpoint, and that slot's epoch, which rises by one with each checkpoint; `journal U`, how many pages of the journal stand behind that checkpoint. The file is judged first, as each opening judges it: where a page that counts is damaged, the fault line names its number, and the status is 1.";
+    "Checks the whole file STORE, as every opening of a store does, and prints three lines. The store stays as it is.
+
+  v V          its version
+  slot A E     the slot of its last checkpoint, A or B, and that slot's epoch,
+               which rises by one with each checkpoint
+  journal U    the number of journal pages after that checkpoint
+
+If a page that counts is damaged, a fault line names its number, and the status is 1.";
 
 const ABOUT_SERVE: &str =
-    "Serves the store in the file STORE, on standard input and output: it reads a line, carries it out, prints its answer, and then reads the next, until the line `quit` or the end of the input.
+    "Serves the store in the file STORE on standard input and output. It reads a line, carries it out, prints its answer, and only then reads the next line. The line `quit` or the end of the input ends the server.
 
-Beside that it serves one client after the other at each pair of named pipes, IN and OUT, all pairs at once: the client writes its lines into IN and reads its answers from OUT. There `quit` ends that client's session alone, and a last line without its end is not carried out. Clients at the pairs behind `--asking` ask and change nothing. The end of standard input ends the server, and so does the last of the 16777216 commands that it takes in one run: the status is 3 then, so that it is started again.
+It also serves one client after another at each pair of named pipes, IN and OUT, all pairs at once. The client writes its lines into IN and reads its answers from OUT. There `quit` ends only that client's session, and a last line without its line feed is not carried out. Clients at the pairs after --asking may only ask.
 
-`set K W`, `close K`, `reopen K`, `mark X`, `unmark X` and `lay T H W` change the network: `ok N`, once the command is version N of the store for good, or `no CODE`. The lines `begin` and `end` enclose commands of which all are carried out or none: `end` is answered for all of them. `dist S T`, `from X T` and `lower S T` ask: the line `v V`, V the version that is shown, and the answer line, or `no CODE`. `arc K` and `arcs T H` tell an arc and the arcs from one node to another, `landmarks` and `closed` all of these, in the version V that is shown: the line `v V`, then theirs. `reach S L` tells the nodes within the length L of S, `reached T L` those from which T is within it, `nearest S K` the K landmarks nearest to S, and `table A B S .. T ..` the lengths from each source to each target, where A sources and then B targets follow behind the two numbers A and B, all in that version. The lines `suppose` and `end` enclose commands that are supposed, for this client alone: `suppose V`, and then the line `s V` stands before each answer, in version V with these commands, until `forget`. `wait` waits until the last command or group that was accepted is shown: `v V`, from which on answers are of that version or a later one; `until N` until version N is. `state` tells how the server stands. With `--copies`, `copy NAME` makes a store in the file NAME of that folder, of the network at the version V that is shown: `copied V`, once it is there for good, or `no CODE`; NAME is 1 to 64 letters, digits, `-` and `_`. Empty lines and those that begin with # have no answer; another line has `no 1` or `no 5`.";
+One run accepts 16777216 commands. Once fewer than 253 are left, the server ends with status 3: start it again.
+
+Commands are answered by `ok N` once they are durable as version N, or by `no CODE`:
+  set K W      arc K gets length W
+  close K      no walk uses arc K
+  reopen K     walks use arc K again
+  mark X       node X becomes a landmark
+  unmark X     node X is no longer a landmark
+  lay T H W    a new arc leads from node T to node H, of length W
+  begin, end   enclose 1 to 253 commands: all or none, one answer at the end
+
+Queries are answered by `v V`, the version that is shown, and by the lines of the
+answer, or by `no CODE`:
+  dist S T     the length of a shortest walk from S to T
+  from X T     the same from a landmark X, without a search
+  lower S T    a lower bound for all walks from S to T
+  arc K        arc K
+  arcs T H     the numbers of all arcs from T to H
+  landmarks    all landmarks
+  closed       all closed arcs
+  reach S L    the nodes at most L away from S
+  reached T L  the nodes from which T is at most L away
+  nearest S K  the K landmarks nearest to S
+  table A B S .. T ..
+               the lengths from each of A sources to each of B targets
+
+What-if queries, for this client only:
+  suppose, end enclose commands, answered by `suppose V`. From then on dist, from,
+               table, reach, reached and nearest are answered, after `s V`, as if
+               these commands had been carried out on version V
+  forget       ends these queries: `forgotten`
+
+Other lines:
+  wait         waits until this session's last accepted command is shown: `v V`
+  until N      waits until version N or a later one is shown: `v V`, or `no 54`
+  state        how the server is doing, in one line
+  copy NAME    with --copies, makes a store in the file NAME of that folder, with
+               the network that is shown: `copied V` once it is durable, or
+               `no CODE`. NAME is 1 to 64 letters, digits, `-` and `_`
+  quit         ends the session
+
+Empty lines and lines that begin with # have no answer. Any other line is answered by `no 1` or `no 5`.";
 
 const AFTER_SERVE: &str =
-    "Lines of a session: set, close, reopen, mark, unmark, lay, begin, end, dist, from, lower, arc, arcs, landmarks, closed, table, reach, reached, nearest, suppose, forget, wait, until, state, copy, quit; `man roadmark` and docs/MANUAL.md tell what each takes and how it is answered.
+    "Lines of a session: set, close, reopen, mark, unmark, lay, begin, end, dist, from, lower, arc, arcs, landmarks, closed, table, reach, reached, nearest, suppose, forget, wait, until, state, copy, quit. `man roadmark` and docs/MANUAL.md say what each takes and how it is answered.
 
 Example: printf 'close 7\\nwait\\ndist 1 6\\n' | roadmark serve six.store";
 
 const ABOUT_MIGRATE: &str =
-    "Makes a store in the file NEW, which is absent or empty, of the store in the file OLD, which an earlier program made and which stays as it is: it holds the same network at the same version. It prints `ok V`, V the version, once the store is there for good.";
+    "Makes a store in the file NEW, which is absent or empty, from the store in the file OLD, which an earlier program made. The new store has the same network at the same version V. It prints `ok V` once the new store is durable. OLD stays as it is.";
 
 const ABOUT_UPGRADE: &str =
-    "Makes a store in the file NEW, which is absent or empty, of the store in the file STORE, which stays as it is, brought to a new map: the network of the file GR. The file OLD is the text that STORE was made of. An arc is the same where its ends and its place among the parallel ones are, and STORE and GR have as many of these. It is closed where it is closed in STORE, and takes the length of GR where its length in STORE is that of OLD, so that nobody changed it, else it keeps that of STORE. Each other arc stands as in GR. A landmark that is no node of GR is dropped. It prints `kept K`, the arcs that are the same; `added A`, those of GR whose ends no arc of STORE has; `gone G`, those of STORE whose ends no arc of GR has; `doubtful D`, those of GR of whose ends STORE has another number; `landmarks gone L`; and `ok 0`, once the store is there for good.";
+    "Makes a store in the file NEW, which is absent or empty, from the store in the file STORE, for a new map: the network of the file GR. The file OLD is the text that STORE was made from. STORE stays as it is.
+
+Arcs are matched by their ends and by their place among parallel arcs, if STORE and GR have equally many of these. A matched arc is closed if it is closed in STORE. If its length in STORE is still that of OLD, it gets the length of GR; if it was changed, or the arc was laid, it keeps the length of STORE. All other arcs are as in GR. Landmarks are those of STORE that are nodes of GR. The new store is at version 0. It prints these lines:
+
+  kept K       arcs of GR that were matched
+  added A      arcs of GR with ends between which STORE has no arc
+  gone G       arcs of STORE with ends between which GR has no arc
+  doubtful D   arcs of GR with ends between which both have arcs, but not
+               equally many
+  landmarks gone L
+               landmarks of STORE that are not nodes of GR
+  ok 0         the new store is durable";
 
 const ABOUT_COPY: &str =
-    "Makes a store in the file FILE, which is absent or empty, of the store in the file STORE, which stays as it is: it holds the same network at the same version, with as much room and as many pages of the journal, where no others are given. It prints `ok V`, V the version, once the copy is there for good. So a store gets more room, or another journal, and keeps its version.";
+    "Makes a store in the file FILE, which is absent or empty, from the store in the file STORE. The copy has the same network at the same version V, and by default the same room and as many journal pages. It prints `ok V` once the copy is durable. STORE stays as it is. This is how a store gets more room, or another journal.";
 
 const ABOUT_SHOW: &str =
-    "Tells of the arcs in the network of the store in the file STORE, which stays as it is: the line `v V`, V the store's version, then of one number K the arc K, `a K T H W open` or `a K T H W closed`, which leads from node T to node H and is W long, or `no 20` where there is no such arc; of two numbers T and H the line `arcs T H K1 K2 ..`, the numbers of all arcs from node T to node H, ascending, closed ones too, or `no 24` where one of the two is no node.";
+    "Prints an arc, or all arcs from one node to another, in the network of the store in the file STORE. The first line is `v V`, with the version V of the store. The store stays as it is.
+
+For one number K it prints arc K, `a K T H W open` or `a K T H W closed`: it leads from node T to node H and is of length W. If there is no such arc, it prints `no 20`.
+
+For two numbers T and H it prints `arcs T H K1 K2 ..`: the numbers of all arcs from node T to node H, in ascending order, closed ones too. If T or H is not a node, it prints `no 24`.";
 
 const ABOUT_EXPORT: &str =
-    "Writes the network of the store in the file STORE, which stays as it is, into three new files of the folder FOLDER, which is there: `network.gr`, all arcs in the order of their numbers; `landmarks.ss`; and `closed.commands`, which closes the closed arcs. It prints `ok V`, V the store's version, once all three are there for good. `create` with the first two, with the store's room, and then `apply` with the third make a store of the same network. The first line of each tells the version, the room and the pages of the journal. Where one of the three is there already nothing is written.";
+    "Writes the network of the store in the file STORE into three new files of the folder FOLDER, which exists. The store stays as it is.
+
+  network.gr       all arcs, in the order of their numbers
+  landmarks.ss     the landmarks
+  closed.commands  commands that close the closed arcs
+
+The first line of each has the version, the room and the number of journal pages. It prints `ok V`, with the version V of the store, once all three are durable. If one of these files exists already, nothing is written.
+
+`create` with the first two and the store's room, and then `apply` with the third, make a store of the same network.";
 
 const GR_HELP: &str = "File of the network, a .gr text, or - for standard input";
 
@@ -166,59 +245,67 @@ const P2P_HELP: &str = "File of the pairs, a .p2p text, or - for standard input"
 const STORE_HELP: &str = "File of the store";
 
 const UNUSED_DELTA: &str =
-    "Width of the search's buckets, 1 to 2147483647. Taken and not used: apply computes no row";
+    "Bucket width of the search, 1 to 2147483647. It is ignored: apply does not search";
 
 const COPIED_ROOM: &str =
-    "Arcs for which the copy has room: at most 67108864; as many as the store where none are given";
+    "Number of arcs that the copy can hold, at most 67108864; by default the room of the store";
 
 const COPIED_JOURNAL: &str =
-    "Pages of the copy's journal, 1 to 65536; as many as the store has where none are given";
+    "Pages of the copy's journal, 1 to 65536; by default as many as the store has";
 
 const DELTA_HELP: &str =
-    "Width of the search's buckets, 1 to 2147483647; every width gives the same answers. Give one, of about a thousandth of a usual long arc, where a few arcs are far longer than the rest";
+    "Bucket width of the search, 1 to 2147483647. Every width gives the same answers. If a few arcs are far longer than the rest, give about a thousandth of the longest of the other arcs";
 
-const JOURNAL_HELP: &str = "Pages of the store's journal, 1 to 65536; 64 where none are given";
+const JOURNAL_HELP: &str = "Pages of the store's journal, 1 to 65536; 64 by default";
 
 const ROOM_HELP: &str =
-    "Arcs for which the store has room, those of the network and those that `lay` adds: at most 67108864; as many as the network has where none are given";
+    "Number of arcs that the store can hold, with those that `lay` adds: at most 67108864; by default as many as the network has";
 
 const NEW_HELP: &str = "File of the new store, absent or empty";
 
 const SOURCES_HELP: &str =
-    "File of the sources of a table, a .ss text, or - for standard input; with --to, and without P2P";
+    "File of the sources of a table, a .ss text, or - for standard input; with --to and without P2P";
 
 const TARGETS_HELP: &str =
-    "File of the targets of a table, a .ss text, or - for standard input; with --from, and without P2P";
+    "File of the targets of a table, a .ss text, or - for standard input; with --from and without P2P";
 
 const COPIES_HELP: &str =
-    "Folder, which is there, in which the line `copy NAME` of a client makes a store of the network; without it no copies are made";
+    "Existing folder in which the line `copy NAME` of a client makes a copy of the store. Without it no copies are made";
 
 const ASKING_HELP: &str =
-    "More pairs of named pipes, at which clients ask and change nothing: a command there is refused with 64, and no copies are made";
+    "More pairs of named pipes, whose clients may only ask: a command or group there is refused with 64, and no copies are made";
 
 const WORKERS_HELP: &str =
-    "Threads that make the landmarks' rows of a new version, 1 to 64; 4 where none are given";
+    "Threads that compute the landmarks' rows of a new version, 1 to 64; 4 by default";
 
 const PATIENCE_HELP: &str =
-    "Seconds for which a line `until N` waits for its version, 1 to 86400; 30 where none are given";
+    "Seconds for which a line `until N` waits for its version, 1 to 86400; 30 by default";
 
-const WITHIN_HELP: &str = "The greatest length of a walk that is told; without it each is told";
+const NUMBER_HELP: &str = "Number of the arc; or, if H is given, node where the arcs begin";
+
+const HEAD_HELP: &str = "Node where the arcs end";
+
+const PIPES_HELP: &str =
+    "Named pipes, two for each client at a time, at most 60 pairs in all. A client writes its lines into IN and reads its answers from OUT";
+
+const VERBOSE_HELP: &str =
+    "Reports progress on standard error, at most one line a second, and why a file cannot be opened";
+
+const WITHIN_HELP: &str = "Greatest LENGTH that is printed; by default there is no limit";
 
 /// A word or an option that a command takes.
 #[derive(Clone, Copy)]
 enum Taken {
     /// A text that has to stand at its place, by its name and with its help.
     Word(&'static str, &'static str),
-    /// A node that has to stand at its place, by its name and with its help.
-    Node(&'static str, &'static str),
+    /// A number that has to stand at its place, by its name, with what help calls it and with its help.
+    Number(&'static str, &'static str, &'static str),
     /// The file of the pairs, where no sources and targets are given.
     Pairs,
     /// `--from SS`.
     Sources,
     /// `--to SS`.
     Targets,
-    /// The number of an arc, or the node where arcs begin.
-    ArcOrTail,
     /// The node where arcs end, if one is given.
     Head,
     /// Names of pipes, two for each client, as many as are given.
@@ -239,6 +326,8 @@ enum Taken {
     Journal(&'static str),
     /// `--room R`, with its help.
     Room(&'static str),
+    /// `--verbose`.
+    Verbose,
 }
 
 /// A word that names a job.
@@ -280,7 +369,7 @@ const WORDS: [Word; 15] = [
     Word::Export,
 ];
 
-/// What the help of a word tells, and what the word takes beside `--verbose`, in the order of its help.
+/// What the help of a word, or of the program, tells, and what it takes, in the order of that help.
 struct Entry {
     name: &'static str,
     about: &'static str,
@@ -289,22 +378,31 @@ struct Entry {
     takes: &'static [Taken],
 }
 
+const PROGRAM_ENTRY: Entry = Entry {
+    name: "roadmark",
+    about: "Exact shortest-path lengths in a road network",
+    long_about: ABOUT,
+    after_help: "Example: roadmark < examples/six.txt",
+    takes: &[Taken::Delta(DELTA_HELP)],
+};
+
 const ONCE_ENTRY: Entry = Entry {
     name: ONCE,
-    about: "Prints the least length of a walk between two nodes",
+    about: "Prints the length of a shortest walk between two nodes",
     long_about: ABOUT_ONCE,
     after_help: "Example: roadmark once examples/six.gr 1 6",
     takes: &[
         Taken::Word(NETWORK, GR_HELP),
-        Taken::Node(SOURCE, "Node where the walk begins"),
-        Taken::Node(TARGET, "Node where the walk ends"),
+        Taken::Number(SOURCE, "S", "Node where the walk begins"),
+        Taken::Number(TARGET, "T", "Node where the walk ends"),
         Taken::Delta(DELTA_HELP),
+        Taken::Verbose,
     ],
 };
 
 const BATCH_ENTRY: Entry = Entry {
     name: BATCH,
-    about: "Prints the least length of a walk for each pair of a file, or of a table",
+    about: "Prints the length of a shortest walk for each pair of a file, or of a table",
     long_about: ABOUT_BATCH,
     after_help: "Example: roadmark batch examples/six.gr examples/six.p2p",
     takes: &[
@@ -313,32 +411,35 @@ const BATCH_ENTRY: Entry = Entry {
         Taken::Sources,
         Taken::Targets,
         Taken::Delta(DELTA_HELP),
+        Taken::Verbose,
     ],
 };
 
 const REACH_ENTRY: Entry = Entry {
     name: REACH,
-    about: "Prints which nodes walks from a node reach, and the least lengths",
+    about: "Prints the nodes to which walks from a node lead, and their distances",
     long_about: ABOUT_REACH,
     after_help: "Example: roadmark reach examples/six.gr 1 --within 10",
     takes: &[
         Taken::Word(NETWORK, GR_HELP),
-        Taken::Node(SOURCE, "Node where the walks begin"),
+        Taken::Number(SOURCE, "S", "Node where the walks begin"),
         Taken::Within,
         Taken::Delta(DELTA_HELP),
+        Taken::Verbose,
     ],
 };
 
 const REACHED_ENTRY: Entry = Entry {
     name: REACHED,
-    about: "Prints from which nodes walks reach a node, and the least lengths",
+    about: "Prints the nodes from which walks lead to a node, and their distances",
     long_about: ABOUT_REACHED,
     after_help: "Example: roadmark reached examples/six.gr 4 --within 2",
     takes: &[
         Taken::Word(NETWORK, GR_HELP),
-        Taken::Node(TARGET, "Node where the walks end"),
+        Taken::Number(TARGET, "T", "Node where the walks end"),
         Taken::Within,
         Taken::Delta(DELTA_HELP),
+        Taken::Verbose,
     ],
 };
 
@@ -353,6 +454,7 @@ const REHEARSE_ENTRY: Entry = Entry {
         Taken::Journal(JOURNAL_HELP),
         Taken::Room(ROOM_HELP),
         Taken::Delta(DELTA_HELP),
+        Taken::Verbose,
     ],
 };
 
@@ -370,24 +472,26 @@ const CREATE_ENTRY: Entry = Entry {
         ),
         Taken::Journal(JOURNAL_HELP),
         Taken::Room(ROOM_HELP),
+        Taken::Verbose,
     ],
 };
 
 const APPLY_ENTRY: Entry = Entry {
     name: APPLY,
-    about: "Applies the commands of a file to a store",
+    about: "Carries out the commands of a file on a store",
     long_about: ABOUT_APPLY,
     after_help: "Example: roadmark apply six.store examples/six.commands",
     takes: &[
         Taken::Word(STORE, STORE_HELP),
         Taken::Word(COMMANDS, "File of the commands, or - for standard input"),
         Taken::Delta(UNUSED_DELTA),
+        Taken::Verbose,
     ],
 };
 
 const ASK_ENTRY: Entry = Entry {
     name: ASK,
-    about: "Prints the least length of a walk for each pair of a file, or of a table, in a store's network",
+    about: "Prints the length of a shortest walk for each pair, in a store's network",
     long_about: ABOUT_ASK,
     after_help: "Example: roadmark ask six.store examples/six.p2p",
     takes: &[
@@ -396,20 +500,21 @@ const ASK_ENTRY: Entry = Entry {
         Taken::Sources,
         Taken::Targets,
         Taken::Delta(DELTA_HELP),
+        Taken::Verbose,
     ],
 };
 
 const CHECK_ENTRY: Entry = Entry {
     name: CHECK,
-    about: "Judges the file of a store, and tells how it stands",
+    about: "Checks the file of a store, and prints its version, slot and journal",
     long_about: ABOUT_CHECK,
     after_help: "Example: roadmark check six.store",
-    takes: &[Taken::Word(STORE, STORE_HELP)],
+    takes: &[Taken::Word(STORE, STORE_HELP), Taken::Verbose],
 };
 
 const SERVE_ENTRY: Entry = Entry {
     name: SERVE,
-    about: "Takes commands and answers queries on standard input and output, over a store",
+    about: "Serves a store on standard input and output, and at pairs of named pipes",
     long_about: ABOUT_SERVE,
     after_help: AFTER_SERVE,
     takes: &[
@@ -420,31 +525,33 @@ const SERVE_ENTRY: Entry = Entry {
         Taken::Workers,
         Taken::Patience,
         Taken::Delta(DELTA_HELP),
+        Taken::Verbose,
     ],
 };
 
 const MIGRATE_ENTRY: Entry = Entry {
     name: MIGRATE,
-    about: "Makes a store of one that an earlier program made",
+    about: "Makes a store from one that an earlier program made",
     long_about: ABOUT_MIGRATE,
     after_help: "Example: roadmark migrate examples/old.store new.store --room 10",
     takes: &[
-        Taken::Word(OLD, "File of the store that is there"),
+        Taken::Word(OLD, "File of the old store"),
         Taken::Word(NEW, NEW_HELP),
         Taken::Room(ROOM_HELP),
+        Taken::Verbose,
     ],
 };
 
 const UPGRADE_ENTRY: Entry = Entry {
     name: UPGRADE,
-    about: "Makes a store of another, brought to a new map of the roads",
+    about: "Makes a store from another, for a new map of the roads",
     long_about: ABOUT_UPGRADE,
     after_help: "Example: roadmark upgrade six.store examples/six.gr new.gr new.store --room 10",
     takes: &[
-        Taken::Word(STORE, "File of the store that is there"),
+        Taken::Word(STORE, "File of the old store"),
         Taken::Word(
             OLD,
-            "File of the network that the store was made of, a .gr text, or - for standard input",
+            "File of the network that the store was made from, a .gr text, or - for standard input",
         ),
         Taken::Word(
             NETWORK,
@@ -452,6 +559,7 @@ const UPGRADE_ENTRY: Entry = Entry {
         ),
         Taken::Word(NEW, NEW_HELP),
         Taken::Room(ROOM_HELP),
+        Taken::Verbose,
     ],
 };
 
@@ -465,24 +573,26 @@ const COPY_ENTRY: Entry = Entry {
         Taken::Word(FILE, "File of the copy, absent or empty"),
         Taken::Room(COPIED_ROOM),
         Taken::Journal(COPIED_JOURNAL),
+        Taken::Verbose,
     ],
 };
 
 const SHOW_ENTRY: Entry = Entry {
     name: SHOW,
-    about: "Tells of an arc, or of all arcs from one node to another, in a store's network",
+    about: "Prints an arc, or all arcs from one node to another, in a store's network",
     long_about: ABOUT_SHOW,
     after_help: "Example: roadmark show six.store 7",
     takes: &[
         Taken::Word(STORE, STORE_HELP),
-        Taken::ArcOrTail,
+        Taken::Number(NUMBER, "K|T", NUMBER_HELP),
         Taken::Head,
+        Taken::Verbose,
     ],
 };
 
 const EXPORT_ENTRY: Entry = Entry {
     name: EXPORT,
-    about: "Writes a store's network out as texts",
+    about: "Writes a store's network as three texts",
     long_about: ABOUT_EXPORT,
     after_help: "Example: roadmark export six.store .",
     takes: &[
@@ -491,6 +601,7 @@ const EXPORT_ENTRY: Entry = Entry {
             FOLDER,
             "Folder in which the texts are made: network.gr, landmarks.ss and closed.commands",
         ),
+        Taken::Verbose,
     ],
 };
 
@@ -515,85 +626,30 @@ fn entry_of(word: Word) -> &'static Entry {
     }
 }
 
-/// A word that has to stand at its place.
-fn required_word<'w>(alloc: Global, name: &'w str, help: &'w str) -> Arg<'w> {
-    Arg::new(alloc, name)
-        .required(true)
-        .action(ArgAction::Set)
-        .help(help)
+/// A word at its place, or what makes an option.
+fn argument<'w>(alloc: Global, name: &'w str, help: &'w str) -> Arg<'w> {
+    Arg::new(alloc, name).help(help)
 }
 
-/// A node's number that has to stand at its place.
-fn required_node<'w>(alloc: Global, name: &'w str, help: &'w str) -> Arg<'w> {
-    required_word(alloc, name, help).value_parser(value_parser!(u64))
-}
-
-/// The number of an arc, or the node where arcs begin.
-fn arc_word<'w>(alloc: Global) -> Arg<'w> {
-    required_node(
-        alloc,
-        NUMBER,
-        "Number of the arc; before H the node where the arcs begin",
-    )
-    .value_name("K|T")
-}
-
-/// The node where arcs end, which may stand at its place.
-fn head_word<'w>(alloc: Global) -> Arg<'w> {
-    Arg::new(alloc, HEAD)
-        .action(ArgAction::Set)
+/// The same for a number of 64 bits, which help calls so.
+fn number_argument<'w>(alloc: Global, name: &'w str, value: &'w str, help: &'w str) -> Arg<'w> {
+    argument(alloc, name, help)
+        .value_name(value)
         .value_parser(value_parser!(u64))
-        .help("Node where the arcs end")
 }
 
 /// The word for the pairs, which stands at its place where no sources and targets are given.
 fn pairs_word<'w>(alloc: Global) -> Result<Arg<'w>, AllocError> {
-    Arg::new(alloc, PAIRS)
-        .action(ArgAction::Set)
-        .help(P2P_HELP)
+    argument(alloc, PAIRS, P2P_HELP)
         .required_unless_present(SOURCES)?
         .required_unless_present(TARGETS)?
         .conflicts_with(SOURCES)?
         .conflicts_with(TARGETS)
 }
 
-/// Names of pipes, two for each client, as many as are given.
-fn pipes_words<'w>(alloc: Global) -> Arg<'w> {
-    Arg::new(alloc, PIPES)
-        .num_args(0..)
-        .value_name("IN OUT")
-        .action(ArgAction::Append)
-        .help(
-            "Named pipes, two for each client that may be there at once, at most 60 pairs: the client writes its lines into IN and reads the answers from OUT",
-        )
-}
-
-/// Names of pipes at which clients ask alone, two for each client, as many as are given.
-fn asking_option<'w>(alloc: Global) -> Arg<'w> {
-    Arg::new(alloc, ASKING)
-        .long(ASKING)
-        .num_args(1..)
-        .value_name("IN OUT")
-        .action(ArgAction::Append)
-        .help(ASKING_HELP)
-}
-
-/// An option whose value is a text, which help calls so.
+/// An option with a value, which help calls so.
 fn text_option<'w>(alloc: Global, name: &'w str, value: &'w str, help: &'w str) -> Arg<'w> {
-    Arg::new(alloc, name)
-        .long(name)
-        .value_name(value)
-        .action(ArgAction::Set)
-        .help(help)
-}
-
-/// An option whose value is a number of 64 bits.
-fn long_option<'w>(alloc: Global, name: &'w str, value: &'w str, help: &'w str) -> Arg<'w> {
-    Arg::new(alloc, name)
-        .long(name)
-        .value_name(value)
-        .value_parser(value_parser!(u64))
-        .help(help)
+    argument(alloc, name, help).long(name).value_name(value)
 }
 
 /// An option whose value is a number from 1 to `most`.
@@ -604,46 +660,49 @@ fn number_option<'w>(
     most: u32,
     help: &'w str,
 ) -> Arg<'w> {
-    Arg::new(alloc, name)
-        .long(name)
-        .value_name(value)
-        .value_parser(value_parser!(u32).range(1..=i64::from(most)))
-        .help(help)
-}
-
-/// A flag `--verbose`.
-fn verbose_flag<'w>(alloc: Global) -> Arg<'w> {
-    Arg::new(alloc, VERBOSE)
-        .long(VERBOSE)
-        .action(ArgAction::SetTrue)
-        .help(
-            "Tells on standard error how far the work has come, a line a second at most, and why a file can't be opened",
-        )
+    text_option(alloc, name, value, help).value_parser(value_parser!(u32).range(
+        1..=i64::from(most),
+    ))
 }
 
 /// What stands for a word or an option among those of a command.
 fn argument_of<'w>(alloc: Global, taken: Taken) -> Result<Arg<'w>, AllocError> {
     match taken {
-        Taken::Word(name, help) => Ok(required_word(alloc, name, help)),
-        Taken::Node(name, help) => Ok(required_node(alloc, name, help)),
+        Taken::Word(name, help) => Ok(argument(alloc, name, help).required(true)),
+        Taken::Number(name, value, help) => Ok(number_argument(alloc, name, value, help).required(
+            true,
+        )),
+        Taken::Head => Ok(number_argument(alloc, HEAD, HEAD, HEAD_HELP)),
         Taken::Pairs => pairs_word(alloc),
         Taken::Sources => text_option(alloc, SOURCES, "SS", SOURCES_HELP).requires_arg(TARGETS),
         Taken::Targets => text_option(alloc, TARGETS, "SS", TARGETS_HELP).requires_arg(SOURCES),
-        Taken::ArcOrTail => Ok(arc_word(alloc)),
-        Taken::Head => Ok(head_word(alloc)),
-        Taken::Pipes => Ok(pipes_words(alloc)),
-        Taken::Asking => Ok(asking_option(alloc)),
+        Taken::Pipes => Ok(
+            argument(alloc, PIPES, PIPES_HELP)
+                .value_name("IN OUT")
+                .num_args(0..)
+                .action(ArgAction::Append),
+        ),
+        Taken::Asking => Ok(
+            text_option(alloc, ASKING, "IN OUT", ASKING_HELP)
+                .num_args(1..)
+                .action(ArgAction::Append),
+        ),
         Taken::Copies => Ok(text_option(alloc, COPIES, "FOLDER", COPIES_HELP)),
         Taken::Workers => Ok(number_option(alloc, WORKERS, "W", MOST_WORKERS, WORKERS_HELP)),
         Taken::Patience => { Ok(number_option(alloc, PATIENCE, "S", MOST_PATIENCE, PATIENCE_HELP)) }
-        Taken::Within => Ok(long_option(alloc, WITHIN, "L", WITHIN_HELP)),
+        Taken::Within => Ok(number_argument(alloc, WITHIN, "L", WITHIN_HELP).long(WITHIN)),
         Taken::Delta(help) => Ok(number_option(alloc, DELTA, "D", MOST_WIDTH, help)),
         Taken::Journal(help) => Ok(number_option(alloc, JOURNAL, "J", MOST_JOURNAL_PAGES, help)),
-        Taken::Room(help) => Ok(long_option(alloc, ROOM, "R", help)),
+        Taken::Room(help) => Ok(number_argument(alloc, ROOM, "R", help).long(ROOM)),
+        Taken::Verbose => Ok(
+            argument(alloc, VERBOSE, VERBOSE_HELP)
+                .long(VERBOSE)
+                .action(ArgAction::SetTrue),
+        ),
     }
 }
 
-/// The command of a word that names a job.
+/// The command of an entry.
 fn command_of<'w>(alloc: Global, entry: &Entry) -> Result<Command<'w>, AllocError> {
     let mut command = Command::new(alloc, entry.name)
         .about(entry.about)
@@ -652,7 +711,7 @@ fn command_of<'w>(alloc: Global, entry: &Entry) -> Result<Command<'w>, AllocErro
     for taken in entry.takes {
         command = command.arg(argument_of(alloc, *taken)?)?;
     }
-    command.arg(verbose_flag(alloc))
+    Ok(command)
 }
 
 /// The version of the program, of the format that it writes, and of the logic by which it was proved.
@@ -660,13 +719,9 @@ const VERSION: &str = "0.2.0 (format 2, rattle logic dac8208d650f15bf)";
 
 /// The program's words.
 pub fn program<'w>(alloc: Global) -> Result<Command<'w>, AllocError> {
-    let mut program = Command::new(alloc, "roadmark")
+    let mut program = command_of(alloc, &PROGRAM_ENTRY)?
         .version(VERSION)
-        .about("Exact least distances in a road network")
-        .long_about(ABOUT)
-        .after_help("Example: roadmark < examples/six.txt")
-        .args_conflicts_with_subcommands(true)
-        .arg(argument_of(alloc, Taken::Delta(DELTA_HELP))?)?;
+        .args_conflicts_with_subcommands(true);
     for word in WORDS {
         program = program.subcommand(command_of(alloc, entry_of(word))?)?;
     }

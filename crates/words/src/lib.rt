@@ -7,4 +7,4 @@ mod words;
 
 pub use commands::MOST_JOURNAL_PAGES;
 pub use pipes::{Misfit, PipePair, pairs_of, pipe_at};
-pub use words::{Asked, Job, MISUSE, PairTexts, Usage, is_input, read_words};
+pub use words::{ArcNumbers, Asked, Job, MISUSE, PairTexts, Usage, is_input, read_words};

@@ -1,13 +1,11 @@
 //! The program's words.
-ghost use Rattle.std.specs.Prelude.{◌≡◌, ◌≢◌, ℕ, ◌≤◌, [], None, false, IsSome, IsOk, IfOk, IfErr, IfSome, option_map};
+ghost use Rattle.std.specs.Prelude.{◌≡◌, ◌≢◌, ◌≤◌, ◌⊎◌, [], ◌∷◌, Some, None, false, IsOk, IfOk, IfErr, IfSome, option_map};
 ghost use Rattle.std.specs.Bool.{Decides};
 ghost use Rattle.std.specs.Option.{ForSome};
-ghost use Rattle.std.specs.Result.{ForOk};
 ghost use lib.Chars.{codes};
 ghost use Rattle.clap.specs.Words.{found_of, kind_of, subcommand_name_of};
-ghost use Rattle.rows.specs.Kept.{IsWidth};
-ghost use Rattle.words.specs.Pipes.{texts, AreFit, AreMisfit, ArePairs};
-ghost use Rattle.words.specs.Words.{delta_of, journal_of, workers_of, pipes_of, pair_names, names_given, given_pairs, all_values, subcommand_of, ComesTwice, HasFitNumbers, Gives, GivesOnce, GivesBatch, GivesReach, GivesReached, GivesRehearse, GivesCreate, GivesApply, GivesAsk, GivesCheck, GivesServe, GivesMigrate, GivesCopy, GivesUpgrade, GivesLook, GivesShow, GivesExport, GivesJoint, GivesJournal, GivesPatience, GivesVerbose, GivesWorkers, IsJournal, IsWorkers, IsLong, IsUsage, IsInput, NamesInputTwice};
+ghost use Rattle.words.specs.Pipes.{AreFit, AreMisfit, ArePairs};
+ghost use Rattle.words.specs.Words.{delta_of, journal_of, workers_of, pipes_of, pair_names, names_given, given_pairs, all_values, subcommand_of, ComesTwice, HasFitParts, Gives, GivesOr, GivesArcs, GivesParts, GivesJob, GivesNoServer, GivesVerbose, Lacks, IsUpTo, IsWidth, IsJournal, IsWorkers, IsLong, IsUsage, IsInput, NamesInputTwice};
 
 use crate::commands::{
     APPLY, ASK, ASKING, BATCH, CHECK, COMMANDS, COPIES, COPY, CREATE, DELTA, EXPORT, FILE, FOLDER,
@@ -19,12 +17,11 @@ use crate::commands::{
 use crate::pipes::{Misfit, PipePair, pairs_of};
 use clap::error::ErrorKind;
 use clap::{ArgMatches, Error};
-use printing::Look;
 use std::alloc::Global;
 use std::convert::AsStr;
 
 /// The texts that give pairs of nodes. A name of a file is as it was written.
-#[derive(Clone, Copy, Debug, PartialEq, Eq)]
+#[derive(Clone, Copy, Debug)]
 pub enum PairTexts<'w> {
     /// One that lists them.
     Listed { pairs: &'w str },
@@ -32,8 +29,17 @@ pub enum PairTexts<'w> {
     Table { sources: &'w str, targets: &'w str },
 }
 
+/// The arcs that are looked at, by their numbers.
+#[derive(Clone, Copy, Debug)]
+pub enum ArcNumbers {
+    /// The arc of this number.
+    Arc { number: u64 },
+    /// All arcs from `tail` to `head`, closed ones too.
+    Between { tail: u64, head: u64 },
+}
+
 /// What the program is asked to do. A name of a file is as it was written.
-#[derive(Debug, Drop, PartialEq, Eq)]
+#[derive(Debug, Drop)]
 pub enum Job<'w> {
     /// The joint form on standard input.
     Joint {
@@ -136,7 +142,7 @@ pub enum Job<'w> {
     /// A look at the arcs of a store's network.
     Show {
         store: &'w str,
-        look: Look,
+        look: ArcNumbers,
     },
     /// The network of a store, written out as texts in a folder.
     Export {
@@ -146,7 +152,7 @@ pub enum Job<'w> {
 }
 
 /// What the words ask for: a job, and whether it is told on standard error how far it has come.
-#[derive(Debug, Drop, PartialEq, Eq)]
+#[derive(Debug, Drop)]
 pub struct Asked<'w> {
     pub job: Job<'w>,
     pub verbose: bool,
@@ -219,58 +225,47 @@ fn usage_for(alloc: Global, misfit: Misfit) -> Usage
     }
 }
 
-/// The width that these words give, if any; within its range, as the option's parser has it.
-fn width_in(matches: &ArgMatches<'_>) -> Option<u32>
-    ensures width { ForSome result IsWidth }
-    ensures given { Gives (found_of matches.now) (codes "delta") IsWidth result }
+/// The number that the word of this name gives, of 64 bits.
+fn number_in(matches: &ArgMatches<'_>, name: &str) -> Option<u64>
+    ensures { Gives (found_of matches.now) name.now IsLong result }
 {
-    match matches.get_one::<u32>(DELTA) {
-        Some(width) if 1 <= width && width <= MOST_WIDTH => Some(width),
-        _ => None,
+    matches.get_one::<u64>(name)
+}
+
+/// The number that the word of this name gives, if any; from 1 to the most, as the option's parser has it.
+fn number_up_to(matches: &ArgMatches<'_>, name: &str, most: u32) -> Option<u32>
+    ensures { Gives (found_of matches.now) name.now (IsUpTo most) result }
+{
+    let number = matches.get_one::<u32>(name)?;
+    if 1 <= number && number <= most {
+        Some(number)
+    } else {
+        None
     }
 }
 
-/// The journal pages that these words give, if any; within their range, as the option's parser has it.
-fn given_journal_in(matches: &ArgMatches<'_>) -> Option<u32>
-    ensures journal { ForSome result IsJournal }
-    ensures given { Gives (found_of matches.now) (codes "journal") IsJournal result }
+/// The same, or another number where the words give none.
+fn number_or(matches: &ArgMatches<'_>, name: &str, most: u32, other: u32) -> u32
+    ensures { GivesOr (found_of matches.now) name.now (IsUpTo most) other result }
 {
-    match matches.get_one::<u32>(JOURNAL) {
-        Some(pages) if 1 <= pages && pages <= MOST_JOURNAL_PAGES => Some(pages),
-        _ => None,
+    match number_up_to(matches, name, most) {
+        Some(number) => number,
+        None => other,
     }
+}
+
+/// The width that these words give, if any.
+fn width_in(matches: &ArgMatches<'_>) -> Option<u32>
+    ensures { Gives (found_of matches.now) (codes "delta") IsWidth result }
+{
+    number_up_to(matches, DELTA, MOST_WIDTH)
 }
 
 /// The journal pages that these words give, or 64.
 fn journal_in(matches: &ArgMatches<'_>) -> u32
-    ensures journal { IsJournal result }
-    ensures given { GivesJournal (found_of matches.now) result }
+    ensures { GivesOr (found_of matches.now) (codes "journal") IsJournal 64 result }
 {
-    match given_journal_in(matches) {
-        Some(pages) => pages,
-        None => DEFAULT_JOURNAL,
-    }
-}
-
-/// The row workers that these words give, or 4; within their range, as the option's parser has it.
-fn workers_in(matches: &ArgMatches<'_>) -> u32
-    ensures workers { IsWorkers result }
-    ensures given { GivesWorkers (found_of matches.now) result }
-{
-    match matches.get_one::<u32>(WORKERS) {
-        Some(workers) if 1 <= workers && workers <= MOST_WORKERS => workers,
-        _ => DEFAULT_WORKERS,
-    }
-}
-
-/// The seconds that these words give for which a version is waited for, or 30; within their range, as the option's parser has it.
-fn patience_in(matches: &ArgMatches<'_>) -> u32
-    ensures { GivesPatience (found_of matches.now) result }
-{
-    match matches.get_one::<u32>(PATIENCE) {
-        Some(patience) if 1 <= patience && patience <= MOST_PATIENCE => patience,
-        _ => DEFAULT_PATIENCE,
-    }
+    number_or(matches, JOURNAL, MOST_JOURNAL_PAGES, DEFAULT_JOURNAL)
 }
 
 /// Whether these words of a subcommand have `--verbose`.
@@ -290,19 +285,9 @@ fn asks_to_tell(matches: &ArgMatches<'_>) -> bool
     }
 }
 
-/// The number that the word of this name gives, of 64 bits.
-fn number_in(matches: &ArgMatches<'_>, name: &str) -> Option<u64>
-    ensures { Gives (found_of matches.now) name.now IsLong result }
-{
-    match matches.get_one::<u64>(name) {
-        Some(number) => Some(number),
-        None => None,
-    }
-}
-
 fn once_in<'w>(matches: &ArgMatches<'w>) -> Option<Job<'w>>
-    ensures numbers { ForSome result HasFitNumbers }
-    ensures given { GivesOnce (found_of matches.now) result }
+    ensures given { IfSome result (GivesJob (codes "once") (found_of matches.now)) }
+    ensures missing { result ≡ None → Lacks (found_of matches.now) (codes "GR" ∷ []) (codes "S" ∷ codes "T" ∷ []) }
 {
     let network = matches.get_str(NETWORK)?;
     let source = number_in(matches, SOURCE)?;
@@ -342,8 +327,8 @@ fn pairs_in<'w>(matches: &ArgMatches<'w>) -> Option<PairTexts<'w>>
 }
 
 fn batch_in<'w>(matches: &ArgMatches<'w>) -> Option<Job<'w>>
-    ensures numbers { ForSome result HasFitNumbers }
-    ensures given { GivesBatch (found_of matches.now) result }
+    ensures given { IfSome result (GivesJob (codes "batch") (found_of matches.now)) }
+    ensures missing { result ≡ None → Lacks (found_of matches.now) (codes "GR" ∷ []) [] ⊎ (given_pairs (found_of matches.now) ≡ None) }
 {
     let network = matches.get_str(NETWORK)?;
     let pairs = pairs_in(matches)?;
@@ -355,8 +340,8 @@ fn batch_in<'w>(matches: &ArgMatches<'w>) -> Option<Job<'w>>
 }
 
 fn reach_in<'w>(matches: &ArgMatches<'w>) -> Option<Job<'w>>
-    ensures numbers { ForSome result HasFitNumbers }
-    ensures given { GivesReach (found_of matches.now) result }
+    ensures given { IfSome result (GivesJob (codes "reach") (found_of matches.now)) }
+    ensures missing { result ≡ None → Lacks (found_of matches.now) (codes "GR" ∷ []) (codes "S" ∷ []) }
 {
     let network = matches.get_str(NETWORK)?;
     let source = number_in(matches, SOURCE)?;
@@ -369,8 +354,8 @@ fn reach_in<'w>(matches: &ArgMatches<'w>) -> Option<Job<'w>>
 }
 
 fn reached_in<'w>(matches: &ArgMatches<'w>) -> Option<Job<'w>>
-    ensures numbers { ForSome result HasFitNumbers }
-    ensures given { GivesReached (found_of matches.now) result }
+    ensures given { IfSome result (GivesJob (codes "reached") (found_of matches.now)) }
+    ensures missing { result ≡ None → Lacks (found_of matches.now) (codes "GR" ∷ []) (codes "T" ∷ []) }
 {
     let network = matches.get_str(NETWORK)?;
     let target = number_in(matches, TARGET)?;
@@ -383,8 +368,8 @@ fn reached_in<'w>(matches: &ArgMatches<'w>) -> Option<Job<'w>>
 }
 
 fn rehearse_in<'w>(matches: &ArgMatches<'w>) -> Option<Job<'w>>
-    ensures numbers { ForSome result HasFitNumbers }
-    ensures given { GivesRehearse (found_of matches.now) result }
+    ensures given { IfSome result (GivesJob (codes "rehearse") (found_of matches.now)) }
+    ensures missing { result ≡ None → Lacks (found_of matches.now) (codes "GR" ∷ codes "SCRIPT" ∷ []) [] }
 {
     let network = matches.get_str(NETWORK)?;
     let script = matches.get_str(SCRIPT)?;
@@ -398,8 +383,8 @@ fn rehearse_in<'w>(matches: &ArgMatches<'w>) -> Option<Job<'w>>
 }
 
 fn create_in<'w>(matches: &ArgMatches<'w>) -> Option<Job<'w>>
-    ensures numbers { ForSome result HasFitNumbers }
-    ensures given { GivesCreate (found_of matches.now) result }
+    ensures given { IfSome result (GivesJob (codes "create") (found_of matches.now)) }
+    ensures missing { result ≡ None → Lacks (found_of matches.now) (codes "STORE" ∷ codes "GR" ∷ codes "SS" ∷ []) [] }
 {
     let store = matches.get_str(STORE)?;
     let network = matches.get_str(NETWORK)?;
@@ -414,8 +399,8 @@ fn create_in<'w>(matches: &ArgMatches<'w>) -> Option<Job<'w>>
 }
 
 fn apply_in<'w>(matches: &ArgMatches<'w>) -> Option<Job<'w>>
-    ensures numbers { ForSome result HasFitNumbers }
-    ensures given { GivesApply (found_of matches.now) result }
+    ensures given { IfSome result (GivesJob (codes "apply") (found_of matches.now)) }
+    ensures missing { result ≡ None → Lacks (found_of matches.now) (codes "STORE" ∷ codes "COMMANDS" ∷ []) [] }
 {
     let store = matches.get_str(STORE)?;
     let commands = matches.get_str(COMMANDS)?;
@@ -427,8 +412,8 @@ fn apply_in<'w>(matches: &ArgMatches<'w>) -> Option<Job<'w>>
 }
 
 fn ask_in<'w>(matches: &ArgMatches<'w>) -> Option<Job<'w>>
-    ensures numbers { ForSome result HasFitNumbers }
-    ensures given { GivesAsk (found_of matches.now) result }
+    ensures given { IfSome result (GivesJob (codes "ask") (found_of matches.now)) }
+    ensures missing { result ≡ None → Lacks (found_of matches.now) (codes "STORE" ∷ []) [] ⊎ (given_pairs (found_of matches.now) ≡ None) }
 {
     let store = matches.get_str(STORE)?;
     let pairs = pairs_in(matches)?;
@@ -440,8 +425,8 @@ fn ask_in<'w>(matches: &ArgMatches<'w>) -> Option<Job<'w>>
 }
 
 fn check_in<'w>(matches: &ArgMatches<'w>) -> Option<Job<'w>>
-    ensures numbers { ForSome result HasFitNumbers }
-    ensures given { GivesCheck (found_of matches.now) result }
+    ensures given { IfSome result (GivesJob (codes "check") (found_of matches.now)) }
+    ensures missing { result ≡ None → Lacks (found_of matches.now) (codes "STORE" ∷ []) [] }
 {
     let store = matches.get_str(STORE)?;
     Some(Job::Check { store })
@@ -462,9 +447,8 @@ fn pipes_in<'w>(alloc: Global, matches: &ArgMatches<'w>) -> Result<Vec<PipePair<
 }
 
 fn serve_in<'w>(alloc: Global, matches: &ArgMatches<'w>) -> Result<Job<'w>, Misfit>
-    ensures numbers { ForOk result HasFitNumbers }
-    ensures pipes { IfOk result (λ job. AreFit (pipes_of job)) }
-    ensures given { GivesServe (found_of matches.now) result }
+    ensures given { IfOk result (GivesJob (codes "serve") (found_of matches.now)) }
+    ensures refused { IfErr result (GivesNoServer (found_of matches.now)) }
 {
     let Some(store) = matches.get_str(STORE) else {
         return Err(Misfit::MissingWord);
@@ -475,16 +459,16 @@ fn serve_in<'w>(alloc: Global, matches: &ArgMatches<'w>) -> Result<Job<'w>, Misf
             pipes,
             copies: matches.get_str(COPIES),
             delta: width_in(matches),
-            workers: workers_in(matches),
-            patience: patience_in(matches),
+            workers: number_or(matches, WORKERS, MOST_WORKERS, DEFAULT_WORKERS),
+            patience: number_or(matches, PATIENCE, MOST_PATIENCE, DEFAULT_PATIENCE),
         }),
         Err(misfit) => Err(misfit),
     }
 }
 
 fn migrate_in<'w>(matches: &ArgMatches<'w>) -> Option<Job<'w>>
-    ensures numbers { ForSome result HasFitNumbers }
-    ensures given { GivesMigrate (found_of matches.now) result }
+    ensures given { IfSome result (GivesJob (codes "migrate") (found_of matches.now)) }
+    ensures missing { result ≡ None → Lacks (found_of matches.now) (codes "OLD" ∷ codes "NEW" ∷ []) [] }
 {
     let old = matches.get_str(OLD)?;
     let new = matches.get_str(NEW)?;
@@ -496,8 +480,8 @@ fn migrate_in<'w>(matches: &ArgMatches<'w>) -> Option<Job<'w>>
 }
 
 fn upgrade_in<'w>(matches: &ArgMatches<'w>) -> Option<Job<'w>>
-    ensures numbers { ForSome result HasFitNumbers }
-    ensures given { GivesUpgrade (found_of matches.now) result }
+    ensures given { IfSome result (GivesJob (codes "upgrade") (found_of matches.now)) }
+    ensures missing { result ≡ None → Lacks (found_of matches.now) (codes "STORE" ∷ codes "OLD" ∷ codes "GR" ∷ codes "NEW" ∷ []) [] }
 {
     let store = matches.get_str(STORE)?;
     let old = matches.get_str(OLD)?;
@@ -513,8 +497,8 @@ fn upgrade_in<'w>(matches: &ArgMatches<'w>) -> Option<Job<'w>>
 }
 
 fn copy_in<'w>(matches: &ArgMatches<'w>) -> Option<Job<'w>>
-    ensures numbers { ForSome result HasFitNumbers }
-    ensures given { GivesCopy (found_of matches.now) result }
+    ensures given { IfSome result (GivesJob (codes "copy") (found_of matches.now)) }
+    ensures missing { result ≡ None → Lacks (found_of matches.now) (codes "STORE" ∷ codes "FILE" ∷ []) [] }
 {
     let store = matches.get_str(STORE)?;
     let file = matches.get_str(FILE)?;
@@ -522,66 +506,72 @@ fn copy_in<'w>(matches: &ArgMatches<'w>) -> Option<Job<'w>>
         store,
         file,
         room: number_in(matches, ROOM),
-        journal_pages: given_journal_in(matches),
+        journal_pages: number_up_to(matches, JOURNAL, MOST_JOURNAL_PAGES),
     })
 }
 
-/// What the numbers ask for: the arc of one, or all arcs from the one node to the other.
-fn look_in(matches: &ArgMatches<'_>) -> Option<Look>
-    ensures { GivesLook (found_of matches.now) result }
+/// The arcs to be looked at: the arc of one number, or all arcs from the one node to the other.
+fn arcs_in(matches: &ArgMatches<'_>) -> Option<ArcNumbers>
+    ensures { GivesArcs (found_of matches.now) result }
 {
     let number = number_in(matches, NUMBER)?;
     match number_in(matches, HEAD) {
-        Some(head) => Some(Look::Between { tail: number, head }),
-        None => Some(Look::Arc { number }),
+        Some(head) => Some(ArcNumbers::Between { tail: number, head }),
+        None => Some(ArcNumbers::Arc { number }),
     }
 }
 
 fn show_in<'w>(matches: &ArgMatches<'w>) -> Option<Job<'w>>
-    ensures numbers { ForSome result HasFitNumbers }
-    ensures given { GivesShow (found_of matches.now) result }
+    ensures given { IfSome result (GivesJob (codes "show") (found_of matches.now)) }
+    ensures missing { result ≡ None → Lacks (found_of matches.now) (codes "STORE" ∷ []) (codes "K" ∷ []) }
 {
     let store = matches.get_str(STORE)?;
-    let look = look_in(matches)?;
+    let look = arcs_in(matches)?;
     Some(Job::Show { store, look })
 }
 
 fn export_in<'w>(matches: &ArgMatches<'w>) -> Option<Job<'w>>
-    ensures numbers { ForSome result HasFitNumbers }
-    ensures given { GivesExport (found_of matches.now) result }
+    ensures given { IfSome result (GivesJob (codes "export") (found_of matches.now)) }
+    ensures missing { result ≡ None → Lacks (found_of matches.now) (codes "STORE" ∷ codes "FOLDER" ∷ []) [] }
 {
     let store = matches.get_str(STORE)?;
     let folder = matches.get_str(FOLDER)?;
     Some(Job::Export { store, folder })
 }
 
-/// The job that was matched, where it has no pipes.
-fn plain_job_in<'w>(matches: &ArgMatches<'w>) -> Option<Job<'w>>
-    ensures numbers { ForSome result HasFitNumbers }
-    ensures pipes { IfSome result (λ job. pipes_of job ≡ []) }
-    ensures kind { IfSome result (λ job. subcommand_name_of matches.now ≡ subcommand_of job) }
-    ensures joint { IfSome result (GivesJoint (found_of matches.now)) }
-    ensures given { subcommand_name_of matches.now ≡ None → IsSome result }
+/// The job of the subcommand of this name, unless it is `serve`.
+fn plain_job_in<'w>(name: &str, matches: &ArgMatches<'w>) -> Option<Job<'w>>
+    ensures { IfSome result (GivesJob name.now (found_of matches.now)) }
 {
-    match matches.subcommand() {
-        None => Some(Job::Joint {
-            delta: width_in(matches),
-        }),
-        Some((ONCE, inner)) => once_in(inner),
-        Some((BATCH, inner)) => batch_in(inner),
-        Some((REACH, inner)) => reach_in(inner),
-        Some((REACHED, inner)) => reached_in(inner),
-        Some((REHEARSE, inner)) => rehearse_in(inner),
-        Some((CREATE, inner)) => create_in(inner),
-        Some((APPLY, inner)) => apply_in(inner),
-        Some((ASK, inner)) => ask_in(inner),
-        Some((CHECK, inner)) => check_in(inner),
-        Some((MIGRATE, inner)) => migrate_in(inner),
-        Some((UPGRADE, inner)) => upgrade_in(inner),
-        Some((COPY, inner)) => copy_in(inner),
-        Some((SHOW, inner)) => show_in(inner),
-        Some((EXPORT, inner)) => export_in(inner),
-        Some(_) => None,
+    match name {
+        ONCE => once_in(matches),
+        BATCH => batch_in(matches),
+        REACH => reach_in(matches),
+        REACHED => reached_in(matches),
+        REHEARSE => rehearse_in(matches),
+        CREATE => create_in(matches),
+        APPLY => apply_in(matches),
+        ASK => ask_in(matches),
+        CHECK => check_in(matches),
+        MIGRATE => migrate_in(matches),
+        UPGRADE => upgrade_in(matches),
+        COPY => copy_in(matches),
+        SHOW => show_in(matches),
+        EXPORT => export_in(matches),
+        _ => None,
+    }
+}
+
+/// The job of the subcommand of this name.
+fn named_job_in<'w>(alloc: Global, name: &str, matches: &ArgMatches<'w>) -> Result<Job<'w>, Misfit>
+    ensures { IfOk result (GivesJob name.now (found_of matches.now)) }
+{
+    if name == SERVE {
+        return serve_in(alloc, matches);
+    }
+    match plain_job_in(name, matches) {
+        Some(job) => Ok(job),
+        None => Err(Misfit::MissingWord),
     }
 }
 
@@ -649,20 +639,24 @@ fn names_input_twice(job: &Job<'_>) -> bool
 
 /// The job that was matched.
 fn job_in<'w>(alloc: Global, matches: &ArgMatches<'w>) -> Result<Job<'w>, Misfit>
-    ensures numbers { ForOk result HasFitNumbers }
-    ensures pipes { IfOk result (λ job. AreFit (pipes_of job)) }
+    ensures fit { IfOk result HasFitParts }
     ensures kind { IfOk result (λ job. subcommand_name_of matches.now ≡ subcommand_of job) }
-    ensures joint { IfOk result (GivesJoint (found_of matches.now)) }
+    ensures joint { subcommand_name_of matches.now ≡ None → IfOk result (GivesParts (found_of matches.now)) }
     ensures once { IfOk result (λ job. ¬ NamesInputTwice job) }
     ensures given { subcommand_name_of matches.now ≡ None → IsOk result }
 {
-    if let Some((SERVE, inner)) = matches.subcommand() {
-        return serve_in(alloc, inner);
-    }
-    match plain_job_in(matches) {
-        None => Err(Misfit::MissingWord),
-        Some(job) if names_input_twice(&job) => Err(Misfit::SameInput),
-        Some(job) => Ok(job),
+    match matches.subcommand() {
+        None => Ok(Job::Joint {
+            delta: width_in(matches),
+        }),
+        Some((name, inner)) => {
+            let job = named_job_in(alloc, name, inner)?;
+            if names_input_twice(&job) {
+                Err(Misfit::SameInput)
+            } else {
+                Ok(job)
+            }
+        }
     }
 }
 

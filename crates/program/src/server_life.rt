@@ -1,4 +1,4 @@
-//! The life of a server: it takes so many commands, and ends where a group might find no place among them, so that it is started again.
+//! The life of a server: it accepts so many commands, and ends when a group might not fit among them, so that it is started again.
 ghost use Rattle.std.specs.Prelude.{◌≡◌, ◌+◌, IfErr, nat_lt};
 ghost use Rattle.roadnet.specs.Groups.{count_of, most_of_group};
 ghost use Rattle.machine.specs.Machine.{most_of_life};
@@ -8,7 +8,7 @@ use desk::{Closed, Gate, Handle, Naming};
 use disk::Disk;
 use machine::MOST_OF_LIFE;
 use roadnet::{Group, MOST_OF_GROUP, Refusal};
-use sessions::let_go;
+use sessions::{Started, let_go};
 use std::fs::{self, File, OpenOptions};
 use std::io::{self, Write};
 use std::os::unix::fs::FileTypeExt;
@@ -17,13 +17,13 @@ use std::sync::Wait;
 use std::thread::{self, Threads};
 use std::time::{Clock, Duration};
 
-/// The standard input of the process, by which it may be opened once more.
+/// The standard input of the process, as a name by which it may be opened once more.
 const INPUT: &str = "/proc/self/fd/0";
 
-/// How many seconds stand between two looks at a desk.
+/// How many seconds pass between two looks at a desk.
 const APART: u64 = 1;
 
-/// Writes the line `quit` behind all that the standard input has, where that is a pipe. A line that is begun there ends before it.
+/// Writes the line `quit` after everything that the standard input has, if that is a pipe. A line that has begun there is ended first.
 fn quit_input<R: Files<File = File>>(rt: &R) -> io::Result<()> {
     if !fs::metadata(rt, INPUT)?.file_type().is_fifo() {
         return Ok(());
@@ -32,7 +32,7 @@ fn quit_input<R: Files<File = File>>(rt: &R) -> io::Result<()> {
     input.write_all(b"\nquit\n")
 }
 
-/// Looks each second whether a desk may take a group more, until it is closed, and tells the server `quit` once it may not.
+/// Checks each second whether a desk can accept another group, until it is closed, and sends the server `quit` once it cannot.
 fn watch_life<
     N: Naming,
     D: Disk + Drop,
@@ -51,14 +51,14 @@ fn watch_life<
     }
 }
 
-/// Starts a thread that ends a server once its desk may take no group more, and lets it go: it ends once the desk is closed, or is cut off where the program ends.
-/// Refused is want of memory (11) and of threads (63).
+/// Starts a thread that ends a server once its desk can accept no other group, and does not join it: it ends once the desk is closed, or is cut off when
+/// the program ends. It fails with 11 for lack of memory, and with 63 if the system gives no thread.
 pub fn start_watching<
     N: Naming + Send + Sync + 'static,
     D: Disk + Drop + Send + 'static,
     G: Gate + Drop + Send + Sync + 'static,
     R: Threads + Wait + Clock + Files<File = File> + Copy + Send + Sync + 'static,
->(rt: R, desk: &Handle<N, D, G, R>) -> Result<(), Refusal>
+>(rt: R, desk: &Handle<N, D, G, R>) -> Result<Started, Refusal>
 where
     R::Dir: Send + 'static,
     ensures causes { IfErr result IsUnstarted }
@@ -88,7 +88,7 @@ fn leave_too_few(groups: &[Group]) -> bool
     false
 }
 
-/// Whether a closed desk took so many commands of its life that fewer are left than a group may have.
+/// Whether a closed desk accepted so many commands of its life that fewer are left than a group may have.
 pub fn is_spent<D: Disk>(closed: &Closed<D>) -> bool
     ensures { result ≡ nat_lt most_of_life (count_of closed.now.whole.groups + most_of_group) }
 {

@@ -1,7 +1,7 @@
 use Rattle.std.proofs.Common.{rules, ◌+◌, ◌≤◌, length, get_or, take}
 use Rattle.std.proofs.lemmas.List.Folds.{length-flat_map-take}
 use Rattle.roadnet.specs.Groups.{count_of}
-use Rattle.program.proofs.lives.leave_too_few.Goals as goal
+use Rattle.program.proofs.server_life.leave_too_few.Goals as goal
 
 pub returns-then-count-gt-MOST_OF_LIFE : goal.returns-then-count-gt-MOST_OF_LIFE
 returns-then-count-gt-MOST_OF_LIFE c =

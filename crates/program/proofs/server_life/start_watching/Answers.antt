@@ -1,6 +1,6 @@
 use denote.Param.Send.{sendable}
 use Rattle.desk.proofs.Sends.{handle_send}
-use Rattle.program.proofs.lives.start_watching.Goals as goal
+use Rattle.program.proofs.server_life.start_watching.Goals as goal
 
 pub let_go-requires-send-T : goal.let_go-requires-send-T
 let_go-requires-send-T g c κs within = search (handle_send, sendable)

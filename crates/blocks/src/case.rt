@@ -24,6 +24,8 @@ pub struct Case {
     /// The texts that go in, but for the last, as they are spelled, and the last.
     texts: Vec<String>,
     last: String,
+    /// What may come out in place of what is wanted.
+    others: Vec<String>,
     wanted: String,
     part: Part,
 }
@@ -50,6 +52,7 @@ impl Case {
             head: String::new(alloc),
             texts: Vec::new(alloc),
             last: String::new(alloc),
+            others: Vec::new(alloc),
             wanted: String::new(alloc),
             part: Part::Head,
         })
@@ -70,6 +73,10 @@ impl Case {
             }
             Part::Input => self.add_input(alloc, line, named),
             Part::Wanted if line.is_empty() => Ok(()),
+            Part::Wanted if line == "or" => {
+                let wanted = std::mem::replace(&mut self.wanted, String::new(alloc));
+                Ok(self.others.push(wanted)?)
+            }
             Part::Wanted => add_raw(&mut self.wanted, line),
         }
     }
@@ -120,6 +127,16 @@ impl Case {
         spelled_lines(alloc, self.wanted.as_str())
     }
 
+    /// Whether this is what is to come out, or one of several texts that may.
+    pub(crate) fn wants(&self, alloc: Global, came: &[u8]) -> Result<bool, AllocError> {
+        for other in self.others.iter() {
+            if spelled_lines(alloc, other.as_str())?.as_slice() == came {
+                return Ok(true);
+            }
+        }
+        Ok(self.wanted(alloc)?.as_slice() == came)
+    }
+
     /// It as a text that blocks may name.
     pub(crate) fn into_named(self) -> Named {
         let Case {
@@ -127,6 +144,7 @@ impl Case {
             head: _,
             texts: _,
             last,
+            others: _,
             wanted: _,
             part: _,
         } = self;

@@ -30,11 +30,13 @@ pub struct Given<'h, 't> {
     pub head: Head<'h>,
     pub texts: &'t [Vec<u8>],
     pub turn: Turn,
+    /// It is the first of its file.
+    pub is_first: bool,
 }
 
 impl<'h, 't> Given<'h, 't> {
     /// The turn of a head: no call fails but those that it names.
-    pub(crate) fn whole(head: Head<'h>, texts: &'t [Vec<u8>]) -> Given<'h, 't> {
+    pub(crate) fn whole(head: Head<'h>, texts: &'t [Vec<u8>], is_first: bool) -> Given<'h, 't> {
         let turn = Turn {
             parts: head.count_of("read-by").unwrap_or(4096),
             read: head.count_of("read-fails").unwrap_or(0),
@@ -42,7 +44,12 @@ impl<'h, 't> Given<'h, 't> {
             disk: head.count_of("disk-fails").unwrap_or(0),
             is_one_of_several: false,
         };
-        Given { head, texts, turn }
+        Given {
+            head,
+            texts,
+            turn,
+            is_first,
+        }
     }
 
     /// The turn of this number.
@@ -51,6 +58,7 @@ impl<'h, 't> Given<'h, 't> {
             head,
             texts,
             mut turn,
+            is_first,
         } = self;
         turn.is_one_of_several = true;
         match varied {
@@ -59,7 +67,12 @@ impl<'h, 't> Given<'h, 't> {
             Varied::Write => turn.write = number,
             Varied::Disk => turn.disk = number,
         }
-        Given { head, texts, turn }
+        Given {
+            head,
+            texts,
+            turn,
+            is_first,
+        }
     }
 
     /// The text at a place, counted from 0, or none of a letter.
@@ -78,8 +91,8 @@ impl<'h, 't> Given<'h, 't> {
         }
     }
 
-    /// A reader of the text at a place.
-    pub fn reader(&self, alloc: Global, at: usize) -> io::Result<BufReader<FailingReader<'t>>> {
+    /// What the text at a place is read from, whose reads fail as the turn says.
+    pub fn failing_reader(&self, at: usize) -> FailingReader<'t> {
         let reads = if at.wrapping_add(1) == self.failing() {
             self.turn.read
         } else {
@@ -91,7 +104,11 @@ impl<'h, 't> Given<'h, 't> {
             ErrorKind::BrokenPipe
         };
         let bytes = self.text(at);
-        let reader = FailingReader { bytes, reads, kind };
-        BufReader::with_capacity(alloc, self.turn.parts as usize, reader)
+        FailingReader { bytes, reads, kind }
+    }
+
+    /// A reader of the text at a place.
+    pub fn reader(&self, alloc: Global, at: usize) -> io::Result<BufReader<FailingReader<'t>>> {
+        BufReader::with_capacity(alloc, self.turn.parts as usize, self.failing_reader(at))
     }
 }

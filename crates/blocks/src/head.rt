@@ -46,6 +46,42 @@ impl<'h> Head<'h> {
     pub(crate) fn range_of(self, option: &str) -> Option<(u32, u32)> {
         range(self.value(option)?)
     }
+
+    /// The first word of it that is none of these options, nor an option of each call, nor the value of one. `*` among the options stands for an argument, which comes before them.
+    pub(crate) fn unknown(self, options: &str) -> Option<&'h str> {
+        let arguments = options.split_whitespace().filter(|it| *it == "*").count();
+        let mut is_value = false;
+        for word in self
+            .line
+            .split_whitespace()
+            .skip(arguments.saturating_add(1))
+        {
+            let known = takes_value(OPTIONS, word).or(takes_value(options, word));
+            match known {
+                _ if is_value => is_value = false,
+                Some(takes) => is_value = takes,
+                None => return Some(word),
+            }
+        }
+        None
+    }
+}
+
+/// The options that each call has: behind one that ends with `=` stands its value.
+const OPTIONS: &str =
+    "read-by= in= each read-fails= interrupted write-fails= disk-fails= somewhere";
+
+/// Whether an option is among these; if it is, whether a value stands behind it.
+fn takes_value(options: &str, word: &str) -> Option<bool> {
+    for option in options.split_whitespace() {
+        if option == word {
+            return Some(false);
+        }
+        if option.strip_suffix("=") == Some(word) {
+            return Some(true);
+        }
+    }
+    None
 }
 
 /// Two numbers with `..` between them.

@@ -14,7 +14,7 @@
 //! what is to come out
 //! ```
 //!
-//! A line `@NAME` stands for the text of a block above with that name whose call is `text`. The options that each call has:
+//! Where one of several texts may come out, a line `or` stands between them. A line `@NAME` stands for the text of a block above with that name whose call is `text`. A call that there is not, and an option that a call does not have, are told in place of what comes out. The options that each call has:
 //!
 //! | Option | Means |
 //! |---|---|
@@ -41,6 +41,6 @@ mod streams;
 pub use case::Case;
 pub use given::{Given, Turn};
 pub use head::Head;
-pub use running::{Calls, Score, run_file};
+pub use running::{Call, Calls, run_files};
 pub use spelling::{put_shown, spelled};
 pub use streams::NotingWriter;

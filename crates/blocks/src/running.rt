@@ -3,19 +3,27 @@ use crate::given::{Given, Varied};
 use crate::head::Head;
 use crate::spelling::{put_shown, spelled};
 use std::alloc::Global;
-use std::io;
+use std::env::Env;
+use std::fs::Files;
+use std::io::{Read, Write};
+use std::process::ExitCode;
+use std::{env, fs, io};
 
-/// What the blocks of a program call.
-pub trait Calls {
-    /// Makes the call of a head on these texts, and adds what comes out.
-    fn call(&mut self, alloc: Global, given: Given<'_, '_>, out: &mut Vec<u8>) -> io::Result<()>;
+/// A call that blocks may name, with its options: behind one that ends with `=` stands its value, and `*` stands for each argument before them.
+pub type Call = (&'static str, &'static str);
+
+/// The calls that the blocks of a program may name, and what makes one: it adds what comes out of a case.
+#[derive(Drop)]
+pub struct Calls<F> {
+    pub table: &'static [Call],
+    pub make: F,
 }
 
 /// How many cases came out as they are to, and how many did not.
 #[derive(Clone, Copy)]
-pub struct Score {
-    pub passed: u64,
-    pub failed: u64,
+struct Score {
+    passed: u64,
+    failed: u64,
 }
 
 /// What differs from turn to turn by the options of a head, if anything does, and from which number to which.
@@ -59,18 +67,21 @@ fn put_turns(
 }
 
 /// What comes out in each turn, once where it is alike.
-fn add_turns<C: Calls>(
+fn add_turns<F: Fn(Global, Given<'_, '_>, &mut Vec<u8>) -> io::Result<()>>(
     alloc: Global,
-    calls: &mut C,
+    calls: &Calls<F>,
     given: Given<'_, '_>,
-    (varied, from, to): (Varied, u32, u32),
+    turns: (Varied, u32, u32),
     out: &mut Vec<u8>,
-) -> io::Result<()> {
+) -> io::Result<()>
+    requires { F.IsAlwaysCallable calls.now.make }
+{
+    let (varied, from, to) = turns;
     let mut since = from;
     let mut came = Vec::new(alloc);
     for number in from..=to {
         let mut next = Vec::new(alloc);
-        calls.call(alloc, given.at(varied, number), &mut next)?;
+        (calls.make)(alloc, given.at(varied, number), &mut next)?;
         if number != from && next.as_slice() != came.as_slice() {
             let turns = (since, number.wrapping_sub(1));
             put_turns(alloc, given.head, from, turns, &came, out)?;
@@ -81,17 +92,12 @@ fn add_turns<C: Calls>(
     put_turns(alloc, given.head, from, (since, to), &came, out)
 }
 
-/// Adds what comes out of a text of one line, in one line.
-fn add_row<C: Calls>(
-    alloc: Global,
-    calls: &mut C,
-    given: Given<'_, '_>,
-    out: &mut Vec<u8>,
-) -> io::Result<()> {
-    let mut came = Vec::new(alloc);
-    calls.call(alloc, given, &mut came)?;
-    let lines = match came.as_slice() {
-        [] => b".".as_slice(),
+/// Adds lines in one line, which is a dot where there are none.
+fn put_row(came: &[u8], out: &mut Vec<u8>) -> io::Result<()> {
+    if came.is_empty() {
+        out.push(b'.')?;
+    }
+    let lines = match came {
         [lines @ .., b'\n'] => lines,
         lines => lines,
     };
@@ -105,13 +111,30 @@ fn add_row<C: Calls>(
     Ok(())
 }
 
-/// What comes out of a case whose rows are texts of their own.
-fn add_rows<C: Calls>(
+/// Adds what comes out of a text of one line, in one line.
+fn add_row<F: Fn(Global, Given<'_, '_>, &mut Vec<u8>) -> io::Result<()>>(
     alloc: Global,
-    calls: &mut C,
-    case: &Case,
+    calls: &Calls<F>,
+    given: Given<'_, '_>,
     out: &mut Vec<u8>,
-) -> io::Result<()> {
+) -> io::Result<()>
+    requires { F.IsAlwaysCallable calls.now.make }
+{
+    let mut came = Vec::new(alloc);
+    (calls.make)(alloc, given, &mut came)?;
+    put_row(&came, out)
+}
+
+/// What comes out of a case whose rows are texts of their own.
+fn add_rows<F: Fn(Global, Given<'_, '_>, &mut Vec<u8>) -> io::Result<()>>(
+    alloc: Global,
+    calls: &Calls<F>,
+    case: &Case,
+    is_first: bool,
+    out: &mut Vec<u8>,
+) -> io::Result<()>
+    requires { F.IsAlwaysCallable calls.now.make }
+{
     let head = Head::new(case.head.as_str());
     let Some(rows) = case.rows().strip_suffix("\n") else {
         return Ok(());
@@ -119,25 +142,58 @@ fn add_rows<C: Calls>(
     for row in rows.split("\n") {
         let mut texts = case.first_texts(alloc)?;
         texts.push(spelled(alloc, row, " / ")?)?;
-        add_row(alloc, calls, Given::whole(head, &texts), out)?;
+        add_row(alloc, calls, Given::whole(head, &texts, is_first), out)?;
     }
     Ok(())
 }
 
+/// The options of a call, if there is one of this name.
+fn options_of(calls: &[Call], name: &str) -> Option<&'static str> {
+    for &(call, options) in calls {
+        if call == name {
+            return Some(options);
+        }
+    }
+    None
+}
+
+/// Tells that there is no such call, or no such option. Answers whether there is.
+fn is_known(calls: &[Call], head: Head<'_>, out: &mut Vec<u8>) -> io::Result<bool> {
+    let Some(options) = options_of(calls, head.word(0)) else {
+        writeln!(out, "no call: {}", head.word(0))?;
+        return Ok(false);
+    };
+    if let Some(word) = head.unknown(options) {
+        writeln!(out, "no option: {word}")?;
+        return Ok(false);
+    }
+    Ok(true)
+}
+
 /// What comes out of a case.
-fn came_of<C: Calls>(alloc: Global, calls: &mut C, case: &Case) -> io::Result<Vec<u8>> {
+fn came_of<F: Fn(Global, Given<'_, '_>, &mut Vec<u8>) -> io::Result<()>>(
+    alloc: Global,
+    calls: &Calls<F>,
+    case: &Case,
+    is_first: bool,
+) -> io::Result<Vec<u8>>
+    requires { F.IsAlwaysCallable calls.now.make }
+{
     let head = Head::new(case.head.as_str());
     let mut out = Vec::new(alloc);
+    if !is_known(calls.table, head, &mut out)? {
+        return Ok(out);
+    }
     if head.has("each") {
-        add_rows(alloc, calls, case, &mut out)?;
+        add_rows(alloc, calls, case, is_first, &mut out)?;
         return Ok(out);
     }
     let mut texts = case.first_texts(alloc)?;
     texts.push(case.last_text(alloc)?)?;
-    let given = Given::whole(head, &texts);
+    let given = Given::whole(head, &texts, is_first);
     match varied_by(head) {
         Some(turns) => add_turns(alloc, calls, given, turns, &mut out)?,
-        None => calls.call(alloc, given, &mut out)?,
+        None => (calls.make)(alloc, given, &mut out)?,
     }
     Ok(out)
 }
@@ -160,64 +216,143 @@ fn tell(
     Ok(())
 }
 
-/// Runs a case. Answers whether it came out as it is to, and tells it where it did not.
-fn is_right<C: Calls>(
-    alloc: Global,
-    calls: &mut C,
-    file: &str,
-    case: &Case,
-    told: &mut Vec<u8>,
-) -> io::Result<bool> {
-    let came = came_of(alloc, calls, case)?;
-    let wanted = case.wanted(alloc)?;
-    let right = case.is_whole() && came.as_slice() == wanted.as_slice();
-    if !right {
-        tell(alloc, file, case, &came, &wanted, told)?;
-    }
-    Ok(right)
+/// A file of cases that is run: its name, the texts that its blocks may name, and what is told of it.
+#[derive(Drop)]
+struct File<'f> {
+    name: &'f str,
+    named: Vec<Named>,
+    score: Score,
+    told: Vec<u8>,
 }
 
-/// Runs a case that was read, if there is one, or notes its text.
-fn end<C: Calls>(
-    alloc: Global,
-    calls: &mut C,
-    file: &str,
-    case: Option<Case>,
-    named: &mut Vec<Named>,
-    score: &mut Score,
-    told: &mut Vec<u8>,
-) -> io::Result<()> {
-    let Some(case) = case else { return Ok(()) };
-    if case.head.as_str() == "text" {
-        named.push(case.into_named())?;
-        return Ok(());
+impl File<'_> {
+    /// A case came out so.
+    fn judge(&mut self, alloc: Global, case: &Case, came: &[u8]) -> io::Result<()> {
+        if case.is_whole() && case.wants(alloc, came)? {
+            self.score.passed = self.score.passed.saturating_add(1);
+            return Ok(());
+        }
+        self.score.failed = self.score.failed.saturating_add(1);
+        tell(
+            alloc,
+            self.name,
+            case,
+            came,
+            &case.wanted(alloc)?,
+            &mut self.told,
+        )
     }
-    if is_right(alloc, calls, file, &case, told)? {
-        score.passed = score.passed.saturating_add(1);
-    } else {
-        score.failed = score.failed.saturating_add(1);
+
+    /// Runs a case that was read, or notes its text.
+    fn end<F: Fn(Global, Given<'_, '_>, &mut Vec<u8>) -> io::Result<()>>(
+        &mut self,
+        alloc: Global,
+        calls: &Calls<F>,
+        case: Case,
+    ) -> io::Result<()>
+        requires { F.IsAlwaysCallable calls.now.make }
+    {
+        if case.head.as_str() == "text" {
+            self.named.push(case.into_named())?;
+            return Ok(());
+        }
+        let is_first = self.score.passed == 0 && self.score.failed == 0;
+        let came = came_of(alloc, calls, &case, is_first)?;
+        self.judge(alloc, &case, &came)
     }
-    Ok(())
 }
 
-/// Runs the cases of a file's text one after the other, and tells those that come out otherwise. What stands before the first block is passed over.
-pub fn run_file<C: Calls>(
+/// Runs the cases of a text one after the other. What stands before the first block is passed over.
+fn run_cases<F: Fn(Global, Given<'_, '_>, &mut Vec<u8>) -> io::Result<()>>(
     alloc: Global,
-    calls: &mut C,
-    file: &str,
+    calls: &Calls<F>,
+    file: &mut File<'_>,
     text: &str,
-    score: &mut Score,
-    told: &mut Vec<u8>,
-) -> io::Result<()> {
-    let mut named = Vec::new(alloc);
-    let mut case: Option<Case> = None;
+) -> io::Result<()>
+    requires { F.IsAlwaysCallable calls.now.make }
+{
+    let mut open: Option<Case> = None;
     for line in text.split("\n") {
         if let Some(name) = line.strip_prefix("== ") {
-            end(alloc, calls, file, case, &mut named, score, told)?;
-            case = Some(Case::new(alloc, name)?);
-        } else if let Some(case) = &mut case {
-            case.add(alloc, line, &named)?;
+            if let Some(case) = open.take() {
+                file.end(alloc, calls, case)?;
+            }
+            open = Some(Case::new(alloc, name)?);
+        } else if let Some(case) = &mut open {
+            case.add(alloc, line, &file.named)?;
         }
     }
-    end(alloc, calls, file, case, &mut named, score, told)
+    match open.take() {
+        Some(case) => file.end(alloc, calls, case),
+        None => Ok(()),
+    }
+}
+
+/// Runs the cases of a text of this name, and tells those that come out otherwise on standard error.
+fn run_text<R: AllocGlobal + Eprint, F: Fn(Global, Given<'_, '_>, &mut Vec<u8>) -> io::Result<()>>(
+    rt: &R,
+    calls: &Calls<F>,
+    name: &str,
+    text: &str,
+) -> io::Result<Score>
+    requires { F.IsAlwaysCallable calls.now.make }
+{
+    let mut file = File {
+        name,
+        named: Vec::new(rt.alloc()),
+        score: Score {
+            passed: 0,
+            failed: 0,
+        },
+        told: Vec::new(rt.alloc()),
+    };
+    run_cases(rt.alloc(), calls, &mut file, text)?;
+    if let Ok(told) = str::from_utf8(file.told.as_slice()) {
+        eprint!(rt; "{told}")?;
+    }
+    Ok(file.score)
+}
+
+/// The text of standard input.
+fn input_of<R: AllocGlobal + Input>(rt: &R) -> io::Result<String> {
+    let mut text = String::new(rt.alloc());
+    rt.reader().read_to_string(&mut text)?;
+    Ok(text)
+}
+
+/// Runs the cases of the files that these words name behind the program's own name, or of standard input where there are none.
+fn run_words<
+    R: AllocGlobal + Eprint + Files + Input,
+    F: Fn(Global, Given<'_, '_>, &mut Vec<u8>) -> io::Result<()>,
+>(rt: &R, calls: &Calls<F>, words: &[String]) -> io::Result<Score>
+    requires { F.IsAlwaysCallable calls.now.make }
+{
+    if words.len() < 2 {
+        return run_text(rt, calls, "standard input", input_of(rt)?.as_str());
+    }
+    let mut score = Score {
+        passed: 0,
+        failed: 0,
+    };
+    for word in words.iter().skip(1) {
+        let text = fs::read_to_string(rt, word.as_str())?;
+        let came = run_text(rt, calls, word.as_str(), text.as_str())?;
+        score.passed = score.passed.saturating_add(came.passed);
+        score.failed = score.failed.saturating_add(came.failed);
+    }
+    Ok(score)
+}
+
+/// Runs the cases of the files that the program's words name, or of standard input where there are none, by these calls. Tells on standard error
+/// each case that comes out otherwise, and how many there were. The status is 0 where all came out as they are to, and there was one at least.
+pub fn run_files<
+    R: AllocGlobal + Env + Eprint + Files + Input,
+    F: Fn(Global, Given<'_, '_>, &mut Vec<u8>) -> io::Result<()>,
+>(rt: &R, calls: &Calls<F>) -> io::Result<ExitCode>
+    requires { F.IsAlwaysCallable calls.now.make }
+{
+    let words = env::args(rt)?.collect::<Vec<String>>(rt.alloc())?;
+    let Score { passed, failed } = run_words(rt, calls, &words)?;
+    eprintln!(rt; "{passed} passed, {failed} failed")?;
+    Ok(ExitCode::from(if failed == 0 && passed > 0 { 0 } else { 1 }))
 }

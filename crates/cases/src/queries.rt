@@ -5,9 +5,10 @@ use crate::outcomes::{put_outcome, width_of};
 use blocks::{Given, Head, NotingWriter};
 use dimacs::{Counted, parse_gr, parse_p2p};
 use printing::{CountedWriter, Done, Failed};
-use querytexts::{Reach, answer_pairs, batch_text, once_text, reach_text, table_text};
+use querytexts::{Reach, answer_by, answer_pairs, batch_text, once_text, reach_text, table_text};
 use rehearsals::{joint_text, rehearse_text};
 use roadnet::Refusal;
+use rows::Searches;
 use std::alloc::Global;
 use std::io;
 use std::thread::Threads;
@@ -127,7 +128,11 @@ fn pairs<T: Threads>(
     let version = given.head.number(1).unwrap_or(0);
     let delta = width_of(given.head);
     let mut writer = CountedWriter::new(writer);
-    Ok(answer_pairs(rt, alloc, &network, version, delta, &pairs, &mut writer))
+    let Some(rows) = given.head.count_of("rows") else {
+        return Ok(answer_pairs(rt, alloc, &network, version, delta, &pairs, &mut writer));
+    };
+    let searches = Searches::new(delta, rows.clamp(1, 64));
+    Ok(answer_by(rt, alloc, &network, version, &searches, &pairs, &mut writer))
 }
 
 fn joint<T: Threads>(

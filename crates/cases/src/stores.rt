@@ -5,19 +5,59 @@ use crate::queries::put_answers;
 use crate::reading::{put_before_run, put_text};
 use crate::served::served;
 use crate::worded::{put_fault_line, put_help, put_job};
-use blocks::{Calls, Given, NotingWriter};
+use blocks::{Call, Given, NotingWriter};
 use disk::{Disk, MemDisk};
 use printing::Failed;
 use std::alloc::Global;
+use std::cell::RefCell;
 use std::io;
 use std::io::{ErrorKind, Write};
 use std::thread::Threads;
+
+/// The options of the calls that make a store, and of those that ask one.
+const MAKING: &str = "journal= room= here keeping sent";
+
+const ASKING: &str = "delta= disk-takes= keeping sent";
+
+/// The calls of the cases.
+pub(crate) const CALLS: &[Call] = &[
+    ("gr", ""),
+    ("ss", ""),
+    ("p2p", ""),
+    ("commands", ""),
+    ("script", ""),
+    ("gr-before-run", ""),
+    ("once", "* * delta= sent"),
+    ("batch", "delta= sent"),
+    ("table", "delta= sent"),
+    ("joint", "delta= sent"),
+    ("reach", "* within= delta= sent"),
+    ("reached", "* within= delta= sent"),
+    ("pairs", "* rows= delta= sent"),
+    ("rehearse", "journal= room= delta= sent"),
+    ("create", MAKING),
+    ("copy", MAKING),
+    ("migrate", MAKING),
+    ("upgrade", MAKING),
+    ("apply", ASKING),
+    ("ask", ASKING),
+    ("check", ASKING),
+    ("version", ASKING),
+    ("show", "* * keeping sent"),
+    ("export", "* keeping sent"),
+    ("write", "*"),
+    ("cut", "*"),
+    ("bytes", ""),
+    ("words", ""),
+    ("help", ""),
+    ("fault-line", ""),
+];
 
 /// The disk that the blocks so far have left.
 #[derive(Drop)]
 pub(crate) struct Made<'r, R> {
     rt: &'r R,
-    disk: Option<MemDisk>,
+    disk: RefCell<Option<MemDisk>>,
 }
 
 /// The bytes of a disk.
@@ -48,12 +88,12 @@ fn put_bytes(file: &mut [u8], at: usize, bytes: &[u8]) {
     }
 }
 
-/// The disk with the bytes of a text, or with them in the place that the head names.
-fn written(alloc: Global, given: Given<'_, '_>, disk: &mut MemDisk) -> io::Result<MemDisk> {
+/// A disk with the bytes of a text, or with these and them in the place that the head names.
+fn written(alloc: Global, given: Given<'_, '_>, bytes: &[u8]) -> io::Result<MemDisk> {
     let Some(at) = given.head.number(1) else {
         return disk_with(alloc, given.text(0));
     };
-    let mut bytes = bytes_of(alloc, disk)?;
+    let mut bytes = Vec::from_slice(alloc, bytes)?;
     put_bytes(&mut bytes, at as usize, given.text(0));
     disk_with(alloc, &bytes)
 }
@@ -95,25 +135,35 @@ fn call_on<T: Threads>(
 impl<'r, R: Threads> Made<'r, R> {
     /// No store is there yet.
     pub(crate) fn new(rt: &'r R) -> Made<'r, R> {
-        Made { rt, disk: None }
-    }
-
-    /// The disk that is there, or an empty one.
-    fn take(&mut self, alloc: Global) -> MemDisk {
-        match self.disk.take() {
-            Some(disk) => disk,
-            None => MemDisk::new(alloc),
+        Made {
+            rt,
+            disk: RefCell::new(None),
         }
     }
 
+    /// The disk that is there, or an empty one. The first block of a file finds none.
+    fn take(&self, alloc: Global, is_first: bool) -> io::Result<MemDisk> {
+        let Ok(mut kept) = self.disk.try_borrow_mut() else {
+            return Err(io::Error::from(ErrorKind::Other));
+        };
+        match kept.take() {
+            Some(disk) if !is_first => Ok(disk),
+            _ => Ok(MemDisk::new(alloc)),
+        }
+    }
+
+    /// This disk is there.
+    fn put(&self, disk: MemDisk) -> io::Result<()> {
+        let Ok(mut kept) = self.disk.try_borrow_mut() else {
+            return Err(io::Error::from(ErrorKind::Other));
+        };
+        *kept = Some(disk);
+        Ok(())
+    }
+
     /// Makes a call on the store. Behind one of several turns the disk is as it was; where the head has `keeping` it is told whether it is.
-    fn call_store(
-        &mut self,
-        alloc: Global,
-        given: Given<'_, '_>,
-        out: &mut Vec<u8>,
-    ) -> io::Result<()> {
-        let mut disk = self.take(alloc);
+    fn call_store(&self, alloc: Global, given: Given<'_, '_>, out: &mut Vec<u8>) -> io::Result<()> {
+        let mut disk = self.take(alloc, given.is_first)?;
         let before = bytes_of(alloc, &mut disk)?;
         let mut disk = call_on(self.rt, alloc, given, disk, out)?;
         if given.head.has("keeping") {
@@ -123,30 +173,31 @@ impl<'r, R: Threads> Made<'r, R> {
         if given.turn.is_one_of_several {
             disk = disk_with(alloc, &before)?;
         }
-        self.disk = Some(disk);
-        Ok(())
+        self.put(disk)
     }
 
-    /// Puts bytes on the disk, or tells how many it has.
-    fn call_disk(
-        &mut self,
+    /// Puts bytes on the disk, cuts it behind so many, or tells how many it has.
+    fn call_disk(&self, alloc: Global, given: Given<'_, '_>, out: &mut Vec<u8>) -> io::Result<()> {
+        let mut disk = self.take(alloc, given.is_first)?;
+        let mut bytes = bytes_of(alloc, &mut disk)?;
+        match given.head.word(0) {
+            "write" => disk = written(alloc, given, &bytes)?,
+            "cut" => {
+                bytes.truncate(given.head.number(1).unwrap_or(0) as usize);
+                disk = disk_with(alloc, &bytes)?;
+            }
+            _ => writeln!(out, "{} bytes", bytes.len())?,
+        }
+        self.put(disk)
+    }
+
+    /// Makes the call of a case, and adds what comes out.
+    pub(crate) fn call(
+        &self,
         alloc: Global,
         given: Given<'_, '_>,
         out: &mut Vec<u8>,
     ) -> io::Result<()> {
-        let mut disk = self.take(alloc);
-        if given.head.word(0) == "write" {
-            disk = written(alloc, given, &mut disk)?;
-        } else {
-            writeln!(out, "{} bytes", bytes_of(alloc, &mut disk)?.len())?;
-        }
-        self.disk = Some(disk);
-        Ok(())
-    }
-}
-
-impl<R: Threads> Calls for Made<'_, R> {
-    fn call(&mut self, alloc: Global, given: Given<'_, '_>, out: &mut Vec<u8>) -> io::Result<()> {
         match given.head.word(0) {
             "gr" | "ss" | "p2p" | "commands" | "script" => put_text(alloc, given, out),
             "gr-before-run" => put_before_run(alloc, given, out),
@@ -163,11 +214,10 @@ impl<R: Threads> Calls for Made<'_, R> {
             | "show"
             | "export"
             | "version" => self.call_store(alloc, given, out),
-            "write" | "bytes" => self.call_disk(alloc, given, out),
+            "write" | "cut" | "bytes" => self.call_disk(alloc, given, out),
             "words" => put_job(alloc, given, out),
             "help" => put_help(alloc, given, out),
-            "fault-line" => put_fault_line(given, out),
-            call => writeln!(out, "no call: {call}"),
+            _ => put_fault_line(given, out),
         }
     }
 }

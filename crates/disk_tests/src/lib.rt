@@ -6,8 +6,6 @@ mod disks;
 #[cfg(test)]
 mod fakes;
 #[cfg(test)]
-mod memory_files;
-#[cfg(test)]
 mod opening;
 #[cfg(test)]
 mod paths;

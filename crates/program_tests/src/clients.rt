@@ -1,5 +1,5 @@
 //! Clients at pairs of pipes, beside a session on standard input.
-use crate::runs::{folder_of, is_done, is_refused, remove};
+use crate::runs::{folder_of, found_in, new_store, remove};
 use crate::serving::{opened, serve_with};
 use program::{PipePair, ServerRuntime, Teller};
 use std::alloc::{AllocError, Global};
@@ -157,11 +157,9 @@ fn serve_new<R: Abort + ServerRuntime>(
 where
     R::Dir: Send + 'static,
 {
-    is_done(&rt, folder, "create new.store six.gr six.ss", "ok 0\n");
-    let path = format!(in rt.alloc(); "{folder}/new.store")?;
+    let path = new_store(&rt, folder, false)?;
     assert!(rt; serve_store(rt, path.as_str(), text, asks_alone, told)?);
-    let looked = "v 2\nslot A 1\njournal 2\n";
-    is_done(&rt, folder, "check new.store", looked);
+    assert!(rt; found_in(&rt, path.as_str())? == (2, 2));
     remove(&rt, folder)
 }
 
@@ -180,77 +178,4 @@ fn a_client_that_asks_alone(rt: HostRuntime) -> Result<(), Fail> {
     let folder = folder_of(&rt, rt.process(), "asking")?;
     let text = b"set 3 1\nbegin\nset 3 1\nend\ncopy a\n";
     serve_new(rt, folder.as_str(), text, true, b"no 64\nno 64\nno 1\n")
-}
-
-/// The two names of a pair, of which an empty one stands for that of a pipe, and the name that is told.
-const NO_PIPES: [(&str, &str, &str); 6] = [
-    ("six.gr", "six.ss", "six.gr"),
-    ("", "six.ss", "six.ss"),
-    ("none", "", "none"),
-    ("", ".", "."),
-    ("/dev/null", "", "/dev/null"),
-    ("", "new.store", "new.store"),
-];
-
-/// The name, or that of a pipe where it is empty.
-fn or_pipe<'a>(name: &'a str, pipe: &'a str) -> &'a str {
-    if name.is_empty() { pipe } else { name }
-}
-
-/// A server at these names of pipes tells of this one that it is no pipe.
-fn is_no_pipe<R: Abort + ServerRuntime>(
-    rt: &R,
-    folder: &str,
-    input: &str,
-    output: &str,
-    named: &str,
-) -> Result<(), Fail>
-where
-    R::Dir: Send + 'static,
-{
-    let words = format!(in rt.alloc(); "serve new.store {input} {output}")?;
-    let told = format!(in rt.alloc(); "roadmark: {named}: line 0: 10 Read\n")?;
-    is_refused(rt, folder, words.as_str(), told.as_str());
-    Ok(())
-}
-
-/// The same of each pair of the table, and of a second pair.
-fn are_no_pipes<R: Abort + ServerRuntime>(
-    rt: &R,
-    folder: &str,
-    pipe: &str,
-    other: &str,
-) -> Result<(), Fail>
-where
-    R::Dir: Send + 'static,
-{
-    for (input, output, named) in NO_PIPES {
-        let (input, output) = (or_pipe(input, pipe), or_pipe(output, pipe));
-        is_no_pipe(rt, folder, input, output, named)?;
-    }
-    let more = format!(in rt.alloc(); "{other} none six.gr")?;
-    is_no_pipe(rt, folder, pipe, more.as_str(), "none")
-}
-
-/// The same with the names of a client's pipes.
-fn pipes_of_a_client<R: Abort + ServerRuntime>(rt: &R, folder: &str) -> Result<(), Fail>
-where
-    R::Dir: Send + 'static,
-{
-    let side = client(rt, b"")?;
-    let names = names_of(rt.alloc(), &side)?;
-    are_no_pipes(rt, folder, names.input.as_str(), names.output.as_str())
-}
-
-/// A name that is none of a pipe is told, the first such one, and nothing is served: not even that the store is none is told behind it. Refused is a body that takes files, folders or nothing
-/// for pipes, that looks at one pipe of a pair alone, or that tells another name.
-#[test]
-fn names_of_no_pipes(rt: HostRuntime) -> Result<(), Fail> {
-    let folder = folder_of(&rt, rt.process(), "no-pipes")?;
-    let create = "create new.store six.gr six.ss";
-    is_done(&rt, folder.as_str(), create, "ok 0\n");
-    pipes_of_a_client(&rt, folder.as_str())?;
-    let looked = "v 0\nslot A 1\njournal 0\n";
-    is_done(&rt, folder.as_str(), "check new.store", looked);
-    remove(&rt, folder.as_str())
 }

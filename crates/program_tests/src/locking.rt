@@ -1,5 +1,5 @@
 //! How long a session's file is locked. And what the session tells of a builder that ended.
-use crate::runs::{folder_of, is_done, remove};
+use crate::runs::{folder_of, new_store, remove};
 use crate::serving::{opened, serve_with};
 use desk::Gate;
 use program::{ServerRuntime, Teller};
@@ -112,9 +112,7 @@ where
 #[test]
 fn the_lock_of_a_session(rt: HostRuntime) -> Result<(), Fail> {
     let folder = folder_of(&rt, rt.process(), "lock")?;
-    let create = "create --journal 1 new.store six.gr six.ss";
-    is_done(&rt, folder.as_str(), create, "ok 0\n");
-    let path = format!(in rt.alloc(); "{}/new.store", folder.as_str())?;
+    let path = new_store(&rt, folder.as_str(), true)?;
     let (is_done, [steps, early, rows]) = watched(rt, path.as_str())?;
     assert!(rt; is_done && steps > 0);
     assert_eq!(rt; (early, rows), (0, 2));

@@ -1,6 +1,6 @@
 //! A pair of pipes of which one is something else by the time at which the next client comes.
 use crate::clients::{name_of, serve_at, tells};
-use crate::runs::{folder_of, is_done, remove};
+use crate::runs::{folder_of, found_in, new_store, remove};
 use program::{PipePair, ServerRuntime};
 use std::alloc::{AllocError, Global};
 use std::fs::{self, File, OpenOptions};
@@ -55,6 +55,8 @@ impl<R: Files<File = File> + Clock> Read for Replacing<'_, R> {
             }
             self.replace()?;
             drop(put);
+            // The first session is over by then: else the second client's line would be one of its own.
+            thread::sleep(self.rt, Duration::from_millis(PATIENCE));
             self.come()?;
             thread::sleep(self.rt, Duration::from_millis(PATIENCE));
         }
@@ -71,13 +73,13 @@ struct Paths {
     store: String,
 }
 
-/// Those of this folder.
-fn paths_in(alloc: Global, folder: &str) -> Result<Paths, AllocError> {
+/// Those of this folder, with this store.
+fn paths_in(alloc: Global, folder: &str, store: String) -> Result<Paths, AllocError> {
     Ok(Paths {
         input: format!(in alloc; "{folder}/in")?,
         output: format!(in alloc; "{folder}/out")?,
         file: format!(in alloc; "{folder}/file")?,
-        store: format!(in alloc; "{folder}/new.store")?,
+        store,
     })
 }
 
@@ -128,12 +130,11 @@ fn serve_replaced<R: Abort + ServerRuntime>(rt: R, folder: &str, is_read: bool) 
 where
     R::Dir: Send + 'static,
 {
-    is_done(&rt, folder, "create new.store six.gr six.ss", "ok 0\n");
-    let paths = paths_in(rt.alloc(), folder)?;
+    let paths = paths_in(rt.alloc(), folder, new_store(&rt, folder, false)?)?;
     let file = paths.file.as_str();
     fs::write(&rt, file, "set 1 77\n")?;
     assert!(rt; is_served_once(rt, &paths, is_read)?);
-    is_done(&rt, folder, "check new.store", "v 1\nslot A 1\njournal 1\n");
+    assert!(rt; found_in(&rt, paths.store.as_str())? == (1, 1));
     let text = fs::read_to_string(&rt, file)?;
     assert!(rt; text.as_str() == "set 1 77\n");
     remove(&rt, folder)

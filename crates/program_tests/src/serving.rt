@@ -68,9 +68,6 @@ where
         &mut reader,
         &mut writer,
     );
-    let told = match served {
-        Ok(ended) => ended.outcome == Ok(()),
-        Err(_) => false,
-    };
-    Ok(told && output.as_slice() == answers)
+    let is_done = served.is_ok_and(|ended| ended.outcome == Ok(()));
+    Ok(is_done && output.as_slice() == answers)
 }

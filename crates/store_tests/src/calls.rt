@@ -1,10 +1,10 @@
 // Which writes and syncs each call of a store makes, and in which order, by the record of a disk in memory.
+use crate::stores::{created, opened};
 use disk::{MemDisk, Pick, Recorded, Stoppable};
 use fixtures::arc;
 use roadnet::{Command, Network, Refusal};
 use std::alloc::Global;
 use store::{Store, inspect};
-use store_fixtures::{created, opened};
 
 // A write of so many whole pages from one on, of a page's bytes before its gate, or of its gate; or a sync.
 #[derive(Clone, Copy)]

@@ -1,11 +1,12 @@
 ghost use Rattle.std.specs.Prelude.{◌≤◌, length};
 
+use crate::page_rows::{PageRow, first_other_page};
+use crate::stores::{opened, roomy_disk, six_disk};
 use disk::{Disk, FailOnce, FuseDisk, MemDisk, Pick, Stoppable};
 use fixtures::arc;
 use roadnet::{Command, Group, Refusal, RoadArc};
 use std::alloc::Global;
 use store::Store;
-use store_fixtures::{PageRow, first_other_page, opened, roomy_disk, six_disk};
 
 // Opens over a fuse that passes the sync of the opening and k writes and syncs more.
 pub fn fused(alloc: Global, disk: MemDisk, k: u64) -> Result<Store<FuseDisk<MemDisk>>, Refusal> {

@@ -1,10 +1,11 @@
 ghost use Rattle.std.specs.Prelude.{◌≡◌, IfOk};
 
+use crate::page_rows::{PageRow, first_other_page};
+use crate::stores::{opened, roomy_disk, six_disk};
 use disk::{Disk, FuseDisk, MemDisk, Pick, Stoppable};
 use roadnet::{Command, Group, Refusal};
 use std::alloc::Global;
 use store::Store;
-use store_fixtures::{PageRow, first_other_page, opened, roomy_disk, six_disk};
 
 const CLOSE: Command = Command::Close { arc: 7 };
 

@@ -1,6 +1,8 @@
-//! Tests of commits, checkpoints and the reuse of the journal's pages, and of which writes and syncs each call of a store makes, by its public calls.
+//! Tests of stores by their public calls: which pages they have, what opening judges and in which order, commits, checkpoints, stops and refusals.
 #![tactic(auto)]
 
+#[cfg(test)]
+mod bytes;
 #[cfg(test)]
 mod calls;
 #[cfg(test)]
@@ -8,8 +10,22 @@ mod checkpointing;
 #[cfg(test)]
 mod committing;
 #[cfg(test)]
+mod fixed_disk;
+#[cfg(test)]
+mod judging;
+#[cfg(test)]
+mod making;
+#[cfg(test)]
+mod memory;
+#[cfg(test)]
+mod old_files;
+#[cfg(test)]
+mod page_rows;
+#[cfg(test)]
 mod parts;
 #[cfg(test)]
 mod refusing;
 #[cfg(test)]
-mod reuse;
+mod stopping;
+#[cfg(test)]
+mod stores;

@@ -1,12 +1,12 @@
 ghost use Rattle.std.specs.Prelude.{◌≤◌};
 
 use crate::checkpointing::{fused, stopped};
+use crate::stores::{created, opened};
 use disk::{Disk, MemDisk, Pick};
 use fixtures::arc;
 use roadnet::{Command, Group, Network, Refusal, RoadArc};
 use std::alloc::Global;
 use store::{Part, Store};
-use store_fixtures::{created, opened};
 
 // A store of so many arcs from node 1 to node 2, of length 5, with room for so many; and how many pages each of the three parts of its checkpoint has.
 #[derive(Drop)]

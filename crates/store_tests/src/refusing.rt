@@ -6,11 +6,11 @@ ghost use Rattle.store.specs.State.{HasTold, told};
 
 use crate::checkpointing::{full, reused, set};
 use crate::parts::{PLANS, one_closed};
+use crate::stores::opened;
 use disk::{Disk, FailOnce, MemDisk};
 use roadnet::Refusal;
 use std::alloc::Global;
 use store::{Store, open};
-use store_fixtures::opened;
 
 // Opens the disk, and once more where it failed. The second opening gives what the first would have: both are judged by the content as it
 // was at first.

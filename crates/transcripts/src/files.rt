@@ -1,14 +1,40 @@
 //! Words on the files of a transcript's folder.
 use crate::steps::word;
 use filedisk::{FileDisk, OpenError, SystemFile, open_file, open_to_read};
+use std::alloc::{AllocError, Global};
 use std::fs::{self, File};
-use std::io;
-use std::io::ErrorKind;
+use std::io::{self, ErrorKind, PipeReader, PipeWriter};
+use std::os::fd::AsRawFd;
 use std::os::unix::fs::symlink;
 use std::rt::Files;
 
-/// A store's file that is held open, if one is.
-pub(crate) type Held = Option<FileDisk<SystemFile>>;
+/// What is held open: a store's file, and a pipe, whose ends are `%` and `%w` in words.
+#[derive(Drop)]
+pub(crate) struct Held {
+    disk: Option<FileDisk<SystemFile>>,
+    pipe: Option<(PipeReader, PipeWriter)>,
+}
+
+impl Held {
+    /// Nothing is.
+    pub(crate) fn new() -> Held {
+        Held {
+            disk: None,
+            pipe: None,
+        }
+    }
+
+    /// The words, in which the names of the pipe's ends stand for `%` and `%w`.
+    pub(crate) fn named(&self, alloc: Global, words: &str) -> Result<String, AllocError> {
+        let Some((reader, writer)) = &self.pipe else {
+            return String::from_str(alloc, words);
+        };
+        let name = format!(in alloc; "/proc/self/fd/{}", writer.as_raw_fd())?;
+        let words = words.replace(alloc, "%w", name.as_str())?;
+        let name = format!(in alloc; "/proc/self/fd/{}", reader.as_raw_fd())?;
+        words.as_str().replace(alloc, "%", name.as_str())
+    }
+}
 
 /// Puts bytes, which a line's words after the first spell in hexadecimal digits, into a file from the place on that the first word tells. Answers whether they fit.
 fn put_bytes(line: &str, bytes: &mut [u8]) -> bool {
@@ -68,13 +94,13 @@ fn hold(held: &mut Held, opened: Result<FileDisk<SystemFile>, OpenError>) -> io:
     let Ok(disk) = opened else {
         return Err(io::Error::from(ErrorKind::PermissionDenied));
     };
-    *held = Some(disk);
+    held.disk = Some(disk);
     Ok(())
 }
 
 /// Lets go what is held, of which no call has failed.
 fn release(held: &mut Held) -> io::Result<()> {
-    match held.take() {
+    match held.disk.take() {
         Some(disk) if disk.failed_calls() == 0 => Ok(()),
         _ => Err(io::Error::from(ErrorKind::Other)),
     }
@@ -100,6 +126,7 @@ fn change_files<R: AllocGlobal + Files<File = File>>(
         }
         "hold" => hold(held, open_file(rt, path))?,
         "hold-to-read" => hold(held, open_to_read(rt, path))?,
+        "hold-pipe" => held.pipe = Some(io::pipe(rt)?),
         "release" => release(held)?,
         _ => return Ok(false),
     }

@@ -38,6 +38,7 @@
 //! | `zeros FILE N`, `change FILE` | make a file of N zero bytes; put bytes into one, by input lines of a place and of bytes in hexadecimal digits |
 //! | `text FILE`, `size FILE`, `compare FILE OTHER` | tell a file's text, its size, or whether two have the same bytes |
 //! | `hold FILE`, `hold-to-read FILE`, `release` | open a store's file beside the runs that follow, to change it or to read it; let it go |
+//! | `hold-pipe` | opens a pipe, the names of whose ends stand for `%` and `%w` in the words that follow |
 #![tactic(auto)]
 
 mod files;
@@ -45,101 +46,42 @@ mod playing;
 mod runs;
 mod steps;
 
-use blocks::{Score, run_file};
-use playing::{Transcripts, play};
+use blocks::{Call, Calls, Given, run_files};
+use playing::play;
 use program::ServerRuntime;
-use std::io::{Read, Write};
+use std::alloc::Global;
+use std::env;
+use std::io::{self, ErrorKind};
 use std::process::{self, ExitCode};
-use std::rt::Env;
-use std::{env, fs, io};
 
-/// Plays the transcripts of a file in this folder, and tells those that go otherwise.
-fn play_file<R: ServerRuntime>(
-    rt: &R,
-    folder: &str,
-    name: &str,
-    score: &mut Score,
-) -> io::Result<()>
-where
-    R::Dir: Send + 'static,
-{
-    let text = fs::read_to_string(rt, name)?;
-    play_text(rt, folder, name, text.as_str(), score)
-}
+/// The call of the transcripts.
+const CALLS: &[Call] = &[("play", "")];
 
-/// Plays transcripts, and tells those that go otherwise.
-fn play_each<R: ServerRuntime>(
-    rt: &R,
-    folder: &str,
-    name: &str,
-    texts: &[String],
-    score: &mut Score,
-    told: &mut Vec<u8>,
-) -> io::Result<()>
-where
-    R::Dir: Send + 'static,
-{
-    for (at, text) in texts.iter().enumerate() {
-        let mut steps = Vec::new(rt.alloc());
-        play(rt, folder, text.as_str(), &mut steps)?;
-        if !steps.is_empty() {
-            writeln!(told, "{name}: transcript {}:", at.wrapping_add(1))?;
-            told.extend_from_slice(&steps)?;
-            score.passed = score.passed.saturating_sub(1);
-            score.failed = score.failed.saturating_add(1);
-        }
-    }
-    Ok(())
-}
-
-/// Plays those of a text of this name.
+/// Plays a transcript in this folder.
 fn play_text<R: ServerRuntime>(
     rt: &R,
     folder: &str,
-    name: &str,
-    text: &str,
-    score: &mut Score,
+    text: &[u8],
+    out: &mut Vec<u8>,
 ) -> io::Result<()>
 where
     R::Dir: Send + 'static,
 {
-    let mut told = Vec::new(rt.alloc());
-    let texts = Vec::new(rt.alloc());
-    let mut read = Transcripts { texts };
-    run_file(rt.alloc(), &mut read, name, text, score, &mut told)?;
-    play_each(rt, folder, name, read.texts.as_slice(), score, &mut told)?;
-    match str::from_utf8(told.as_slice()) {
-        Ok(told) => eprint!(rt; "{told}"),
-        Err(_) => Ok(()),
+    match str::from_utf8(text) {
+        Ok(text) => play(rt, folder, text, out),
+        Err(_) => Err(io::Error::from(ErrorKind::InvalidData)),
     }
-}
-
-/// Plays those of the files that the words name, or of standard input.
-fn play_all<R: ServerRuntime + Env + Input>(rt: &R, id: u32, score: &mut Score) -> io::Result<()>
-where
-    R::Dir: Send + 'static,
-{
-    let temporary = env::temp_dir(rt)?;
-    let folder = format!(in rt.alloc(); "{}/transcript-{id}", temporary.as_str())?;
-    let words = env::args(rt)?.collect::<Vec<String>>(rt.alloc())?;
-    for word in words.iter().skip(1) {
-        play_file(rt, folder.as_str(), word.as_str(), score)?;
-    }
-    if words.len() < 2 {
-        let mut text = String::new(rt.alloc());
-        rt.reader().read_to_string(&mut text)?;
-        play_text(rt, folder.as_str(), "standard input", text.as_str(), score)?;
-    }
-    Ok(())
 }
 
 fn main(rt: HostRuntime) -> io::Result<ExitCode> {
-    let mut score = Score {
-        passed: 0,
-        failed: 0,
+    let temporary = env::temp_dir(&rt)?;
+    let id = process::id(rt.process());
+    let folder = format!(in rt.alloc(); "{}/transcript-{id}", temporary.as_str())?;
+    let calls = Calls {
+        table: CALLS,
+        make: |_alloc: Global, given: Given<'_, '_>, out: &mut Vec<u8>| -> io::Result<()> {
+            play_text(&rt, folder.as_str(), given.text(0), out)
+        },
     };
-    play_all(&rt, process::id(rt.process()), &mut score)?;
-    let Score { passed, failed } = score;
-    eprintln!(rt; "{passed} passed, {failed} failed")?;
-    Ok(ExitCode::from(if failed == 0 && passed > 0 { 0 } else { 1 }))
+    run_files(&rt, &calls)
 }

@@ -1,31 +1,10 @@
-//! Transcripts are read and played.
+//! A transcript is read and played.
 use crate::files::{Held, told_of_files};
 use crate::runs::run;
 use crate::steps::{Step, steps_of};
-use blocks::{Calls, Given};
 use program::ServerRuntime;
-use std::alloc::Global;
-use std::io::{ErrorKind, Write};
+use std::io::Write;
 use std::{fs, io};
-
-/// The transcripts of a file, in their order, as its blocks are read. A trait's method can't play them: whether what it sends to threads may be sent is known of a function alone.
-#[derive(Drop)]
-pub(crate) struct Transcripts {
-    pub(crate) texts: Vec<String>,
-}
-
-impl Calls for Transcripts {
-    fn call(&mut self, alloc: Global, given: Given<'_, '_>, out: &mut Vec<u8>) -> io::Result<()> {
-        let Ok(text) = str::from_utf8(given.text(0)) else {
-            return Err(io::Error::from(ErrorKind::InvalidData));
-        };
-        if given.head.word(0) != "play" {
-            return writeln!(out, "no call: {}", given.head.word(0));
-        }
-        self.texts.push(String::from_str(alloc, text)?)?;
-        Ok(())
-    }
-}
 
 /// Does the words of a step. Answers what they tell.
 fn told_of<R: ServerRuntime>(
@@ -38,6 +17,7 @@ where
     R::Dir: Send + 'static,
 {
     let words = step.words.as_str().replace(rt.alloc(), "~", folder)?;
+    let words = held.named(rt.alloc(), words.as_str())?;
     let words = words.as_str();
     let input = step.input.as_str();
     let is_run = words.split_whitespace().any(|it| it == "roadmark");
@@ -80,7 +60,7 @@ fn play_steps<R: ServerRuntime>(
 where
     R::Dir: Send + 'static,
 {
-    let mut held: Held = None;
+    let mut held = Held::new();
     for step in steps {
         play_step(rt, folder, step, &mut held, out)?;
     }

@@ -1,7 +1,7 @@
-//! Which rows a cache keeps, batches by caches of several sizes, and growths that are refused.
+//! Which rows a cache keeps, and growths that are refused.
 
 ghost use Rattle.std.specs.Prelude.{◌≤◌};
-ghost use Rattle.rows.specs.Cached.{HasRowsOf, KeepsOthers};
+ghost use Rattle.kept_rows.specs.Cached.{HasRowsOf, KeepsOthers};
 
 use fixtures::{six, six_with};
 use relax::Solo;
@@ -125,26 +125,6 @@ fn fewer_side_of_a_batch(rt: HostRuntime) {
     for (pairs, rows) in SIDES {
         let told = asked_together(&rt, rt.alloc(), &view, &pairs, 16).expect(&rt, "memory");
         assert!(rt; told == (true, rows), "{told:?}");
-    }
-}
-
-const PAIRS: [(u64, u64); 8] = [
-    (1, 6),
-    (6, 1),
-    (4, 4),
-    (1, 7),
-    (1, 6),
-    (0, 1),
-    (2, 5),
-    (3, 4),
-];
-
-#[test]
-fn batch_by_caches_of_several_sizes(rt: HostRuntime) {
-    let view = view_of_six(rt.alloc(), &[]).expect(&rt, "memory");
-    for capacity in [1, 16, 64] {
-        let told = asked_together(&rt, rt.alloc(), &view, &PAIRS, capacity).expect(&rt, "memory");
-        assert!(rt; told.0, "{capacity}");
     }
 }
 

@@ -1,9 +1,7 @@
-//! Tests of rows, views and networks that are supposed, by their public calls.
+//! Tests of rows and views by their public calls.
 #![tactic(auto)]
 
 #[cfg(test)]
 mod caching;
-#[cfg(test)]
-mod supposing;
 #[cfg(test)]
 mod viewing;

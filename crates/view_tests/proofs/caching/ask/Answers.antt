@@ -1,7 +1,7 @@
 use Rattle.std.proofs.Common.{◌≡◌, ◌∙◌, sym, subst, ap, Contains}
 use Rattle.rows.specs.Views.{Viewed}
-use Rattle.rows.specs.declared.caches.RowCache.{RowCache}
-use Rattle.rows.specs.Cached.{HasRowsOf, kept_row, rows_of}
+use Rattle.kept_rows.specs.declared.caches.RowCache.{RowCache}
+use Rattle.kept_rows.specs.Cached.{HasRowsOf, kept_row, rows_of}
 use Rattle.view_tests.proofs.caching.ask.Goals as goal
 
 pub returns-clause-kept : goal.returns-clause-kept

@@ -1,0 +1,119 @@
+// A desk is started, called line by line, and closed. What is answered is told, and what the gate noted and the desk left.
+ghost use Rattle.std.specs.Prelude.{◌≡◌, ◌≤◌, true};
+ghost use Rattle.std.specs.Option.{ForSome};
+ghost use Rattle.rows.specs.Kept.{IsWidth};
+ghost use Rattle.store.specs.State.{CameTidy, is_calm};
+ghost use Rattle.desk.specs.Openings.{IsNewDesk};
+
+use crate::boards::{Board, Watch};
+use crate::moves::{caller_of, play_moves};
+use crate::setups::{Kept, gate_of, left_by, setup_of, store_of};
+use blocks::Given;
+use desk::{Closed, Desk, History, Naming, ServeRuntime, Setup};
+use disk::Disk;
+use roadnet::Refusal;
+use std::alloc::Global;
+use std::io::Write;
+use std::marker::Brand;
+use std::sync::Wait;
+use std::thread::Threads;
+use std::time::Clock;
+use store::Store;
+
+/// A desk is started, called and closed. The answers are added.
+fn call_desk<N: Naming + Send + Sync + 'static, R: ServeRuntime>(
+    rt: R,
+    alloc: Global,
+    history: History,
+    store: Store<Kept>,
+    gate: Watch<R>,
+    setup: Setup,
+    board: &Board,
+    given: Given<'_, '_>,
+    out: &mut Vec<u8>,
+) -> Result<Closed<Kept>, Refusal>
+    requires calm { is_calm store ≡ true }
+    requires width { ForSome setup.delta IsWidth }
+    requires workers { (1 ≤ setup.workers) × (setup.workers ≤ 64) }
+    requires new { IsNewDesk N.origin history store }
+    requires came_tidy { N.came_tidy → CameTidy ⟦<Kept as Disk>⟧.honest ⟦<Kept as Disk>⟧.content store.given }
+{
+    let desk: Desk<N, Kept, Watch<R>, R> = Desk::start(rt, alloc, history, store, gate, setup)?;
+    let mut caller = caller_of::<N>(alloc);
+    let told = play_moves(&rt, alloc, &desk, board, given, &mut caller, out);
+    let closed = desk.close()?;
+    told?;
+    if given.head.has("confirmed") {
+        let confirmed = caller.confirmed(&closed);
+        writeln!(out, "confirmed {confirmed}").or(Err(Refusal::OutOfMemory))?;
+    }
+    Ok(closed)
+}
+
+/// Adds what the gate noted until the threads had ended.
+fn put_noted<R: Wait>(
+    rt: &R,
+    alloc: Global,
+    board: &Board,
+    out: &mut Vec<u8>,
+) -> Result<(), Refusal> {
+    let flushes = board.flush.numbers(rt, alloc)?;
+    let steps = board.step.numbers(rt, alloc)?;
+    let late = if board.has_expired() {
+        ", held too long"
+    } else {
+        ""
+    };
+    let ended = if board.given_up() > 0 {
+        ", the builder gave up"
+    } else {
+        ""
+    };
+    writeln!(out, "flushes {flushes:?}, steps {steps:?}{late}{ended}").or(Err(Refusal::OutOfMemory))
+}
+
+/// Plays a case once.
+fn play_once<R: ServeRuntime>(
+    rt: R,
+    alloc: Global,
+    given: Given<'_, '_>,
+    out: &mut Vec<u8>,
+) -> Result<(), Refusal> {
+    let store = store_of(alloc, given)?;
+    let history = History::new(store.network(), store.version());
+    let (gate, board) = gate_of(rt, alloc, given.head)?;
+    let setup = setup_of(given.head);
+    let closed = call_desk::<Brand, _>(rt, alloc, history, store, gate, setup, &board, given, out)?;
+    if !given.head.has("brief") {
+        put_noted(&rt, alloc, &board, out)?;
+    }
+    let left = left_by(alloc, given, closed)?;
+    let other = if left.is_right {
+        ""
+    } else {
+        ", which is another network"
+    };
+    writeln!(
+        out,
+        "left {}, shown {}, kept {}{other}",
+        left.groups, left.shown, left.version
+    )
+    .or(Err(Refusal::OutOfMemory))
+}
+
+/// Plays a case, and again while a call was late.
+pub(crate) fn play<R: ServeRuntime>(
+    rt: R,
+    alloc: Global,
+    given: Given<'_, '_>,
+    out: &mut Vec<u8>,
+) -> Result<(), Refusal> {
+    for _ in 0..given.head.count_of("rounds").unwrap_or(1) {
+        out.clear();
+        play_once(rt, alloc, given, out)?;
+        if !out.windows(5).any(|bytes| bytes == b"late\n".as_slice()) {
+            break;
+        }
+    }
+    Ok(())
+}

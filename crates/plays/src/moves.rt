@@ -1,0 +1,391 @@
+// What a caller of a desk does, a line each.
+ghost use Rattle.std.specs.Prelude.{◌≡◌};
+
+use crate::boards::{Board, Watch, reaches};
+use crate::crowds::{all_readers, callers, wake};
+use crate::setups::Kept;
+use blocks::Given;
+use desk::{
+    Closed, Desk, Handle, Naming, Reader, Receipt, Refused, ServeRuntime, ServedNaming, Ticket,
+};
+use dimacs::read_command;
+use disk::Disk;
+use roadnet::{Command, Group, Refusal};
+use rows::Reply;
+use std::alloc::Global;
+use std::collections::VecDeque;
+use std::io::Write;
+use std::marker::PhantomData;
+use std::sync::Wait;
+use std::thread::{self, Threads};
+use std::time::{Clock, Duration};
+
+/// A desk of a case, as its callers have it.
+pub(crate) type Called<N, R> = Handle<N, Kept, Watch<R>, R>;
+
+/// How often a reader looks at most, a millisecond apart.
+const MOST_TURNS: u32 = 10000;
+
+/// The command with which a desk is filled.
+pub(crate) const SHORTER: Command = Command::Set { arc: 8, length: 4 };
+
+/// A ticket of this desk.
+#[derive(Drop)]
+struct Held<N: Naming> {
+    ticket: Ticket,
+    of: PhantomData<N>,
+    ghost named: { ticket.origin ≡ N.origin },
+}
+
+/// A receipt of this desk.
+#[derive(Drop)]
+struct Signed<N: Naming> {
+    receipt: Receipt,
+    of: PhantomData<N>,
+    ghost named: { receipt.origin ≡ N.origin },
+}
+
+/// Whether the closed desk confirms the receipt's group.
+fn is_confirmed<N: Naming>(closed: &Closed<Kept>, signed: &Signed<N>) -> bool
+    requires { closed.now.whole.origin ≡ N.origin }
+{
+    !closed.confirm(&signed.receipt).commands().is_empty()
+}
+
+/// What a caller has: its tickets, the receipts for those that it settled, and a reader, once it looked.
+#[derive(Drop)]
+pub(crate) struct Caller<N: Naming> {
+    tickets: VecDeque<Held<N>>,
+    receipts: Vec<Signed<N>>,
+    reader: Option<Reader<N>>,
+}
+
+/// The command of a line.
+fn command_of(line: &str) -> Result<Command, Refusal> {
+    match read_command(line.as_bytes()) {
+        Ok(Some(command)) => Ok(command),
+        _ => Err(Refusal::NumberRange),
+    }
+}
+
+/// The group of the commands of a line, which stand with commas between them.
+fn group_of(alloc: Global, line: &str) -> Result<Group, Refusal> {
+    let mut commands = Vec::new(alloc);
+    for command in line.split(",") {
+        if !command.is_empty() {
+            commands
+                .push(command_of(command)?)
+                .or(Err(Refusal::OutOfMemory))?;
+        }
+    }
+    Group::new(commands)
+}
+
+impl<N: Naming> Caller<N> {
+    /// Keeps a ticket. Told is its number.
+    fn keep(&mut self, ticket: Ticket) -> Result<u64, Refusal>
+        requires { ticket.origin ≡ N.origin }
+    {
+        let number = ticket.ticket().number;
+        let held = Held {
+            ticket,
+            of: PhantomData,
+        };
+        match self.tickets.push_back(held) {
+            Ok(()) => Ok(number),
+            Err(_) => Err(Refusal::OutOfMemory),
+        }
+    }
+
+    /// Submits a group, and keeps its ticket.
+    fn submit<R: ServeRuntime>(
+        &mut self,
+        desk: &Called<N, R>,
+        group: Group,
+    ) -> Result<u64, Refusal> {
+        self.keep(desk.submit_group(group)?)
+    }
+
+    /// Submits so many commands. Told is the last number.
+    fn fill<R: ServeRuntime>(&mut self, desk: &Called<N, R>, count: u64) -> Result<u64, Refusal> {
+        let mut last = 0;
+        for _ in 0..count {
+            last = self.submit(desk, Group::one(SHORTER))?;
+        }
+        Ok(last)
+    }
+
+    /// Submits so many commands, and settles each before the next. Told is the last number.
+    fn settle_each<R: ServeRuntime>(
+        &mut self,
+        desk: &Called<N, R>,
+        count: u64,
+    ) -> Result<u64, Refusal> {
+        let mut last = 0;
+        for _ in 0..count {
+            self.submit(desk, Group::one(SHORTER))?;
+            last = self.settle(desk, true)?;
+        }
+        Ok(last)
+    }
+
+    /// Settles the oldest ticket or the last one, which is gone then.
+    fn settle<R: ServeRuntime>(
+        &mut self,
+        desk: &Called<N, R>,
+        is_last: bool,
+    ) -> Result<u64, Refusal> {
+        let held = if is_last {
+            self.tickets.pop_back()
+        } else {
+            self.tickets.pop_front()
+        };
+        let Some(held) = held else {
+            return Err(Refusal::NoTask);
+        };
+        let receipt = match desk.settle(held.ticket) {
+            Ok(receipt) => receipt,
+            Err((refusal, _)) => return Err(refusal),
+        };
+        let number = receipt.ticket().ticket().number;
+        let signed = Signed {
+            receipt,
+            of: PhantomData,
+        };
+        match self.receipts.push(signed) {
+            Ok(()) => Ok(number),
+            Err(_) => Err(Refusal::OutOfMemory),
+        }
+    }
+
+    /// How many receipts the closed desk confirms.
+    pub(crate) fn confirmed(&self, closed: &Closed<Kept>) -> usize
+        requires { closed.now.whole.origin ≡ N.origin }
+    {
+        let mut count: usize = 0;
+        for signed in self.receipts.as_slice() {
+            if is_confirmed(closed, signed) {
+                count = count.saturating_add(1);
+            }
+        }
+        count
+    }
+
+    /// Waits for a view with the command of the oldest ticket or of the last one.
+    fn see<R: ServeRuntime>(&self, desk: &Called<N, R>, is_last: bool) -> Result<u64, Refusal> {
+        let held = if is_last {
+            self.tickets.back()
+        } else {
+            self.tickets.front()
+        };
+        let Some(held) = held else {
+            return Err(Refusal::NoTask);
+        };
+        desk.wait_shown(&held.ticket)?;
+        Ok(held.ticket.ticket().number)
+    }
+
+    /// Its own reader, which is made where there is none yet.
+    fn reader<R: ServeRuntime>(&mut self, desk: &Called<N, R>) -> Result<Reader<N>, Refusal> {
+        match self.reader.take() {
+            Some(reader) => Ok(reader),
+            None => desk.reader(),
+        }
+    }
+
+    /// Waits for a view with the command of the oldest ticket, of which its own reader learns, and looks.
+    fn learn<R: ServeRuntime>(
+        &mut self,
+        rt: &R,
+        alloc: Global,
+        desk: &Called<N, R>,
+        out: &mut Vec<u8>,
+    ) -> Result<(), Refusal> {
+        let mut reader = self.reader(desk)?;
+        if let Some(held) = self.tickets.front() {
+            reader.learn(&desk.wait_shown(&held.ticket)?);
+        }
+        let told = look(rt, alloc, &mut reader, out);
+        self.reader = Some(reader);
+        told
+    }
+
+    /// Looks by its own reader until this version is shown, 10,000 times at most.
+    fn watch<R: ServeRuntime>(
+        &mut self,
+        rt: &R,
+        alloc: Global,
+        desk: &Called<N, R>,
+        version: u64,
+        out: &mut Vec<u8>,
+    ) -> Result<(), Refusal> {
+        let mut reader = self.reader(desk)?;
+        for _ in 0..MOST_TURNS {
+            reader.look()?;
+            if reader.pinned().version() >= version {
+                break;
+            }
+            thread::sleep(rt, Duration::from_millis(1));
+        }
+        let told = look(rt, alloc, &mut reader, out);
+        self.reader = Some(reader);
+        told
+    }
+}
+
+/// A reader pins, and is asked from node 1 to node 6 and back. Told are the version and the distance; there is no way back.
+fn look<N: Naming, R: Threads>(
+    rt: &R,
+    alloc: Global,
+    reader: &mut Reader<N>,
+    out: &mut Vec<u8>,
+) -> Result<(), Refusal> {
+    let mut pinned = reader.pin()?;
+    let version = pinned.version();
+    let replies = pinned.batch(rt, alloc, &[(1, 6), (6, 1)])?;
+    let written = match replies.as_slice() {
+        [Reply::Length(length), Reply::NoWalk] => writeln!(out, "{version}:{length}"),
+        _ => writeln!(out, "{version}"),
+    };
+    written.or(Err(Refusal::OutOfMemory))
+}
+
+/// Offers a command, and settles the basis of its refusal. Told is for what it is refused, or why the basis isn't settled; or its number.
+fn decline<N: Naming, R: ServeRuntime>(
+    desk: &Called<N, R>,
+    command: Command,
+) -> Result<u64, Refusal> {
+    let Refused { refusal, basis } = match desk.offer(Group::one(command)) {
+        Ok(ticket) => return Ok(ticket.ticket().number),
+        Err(refused) => refused,
+    };
+    if let Some(basis) = basis {
+        desk.settle_basis(&basis)?;
+    }
+    Err(refusal)
+}
+
+/// The width of the buckets of the view at which a new reader looks.
+fn width<N: Naming, R: ServeRuntime>(desk: &Called<N, R>) -> Result<u64, Refusal> {
+    let mut reader = desk.reader()?;
+    Ok(u64::from(reader.pin()?.width()))
+}
+
+/// Adds a call's answer, a number or a refusal.
+fn put(answer: Result<u64, Refusal>, out: &mut Vec<u8>) -> Result<(), Refusal> {
+    let written = match answer {
+        Ok(number) => writeln!(out, "{number}"),
+        Err(refusal) => writeln!(out, "{refusal}"),
+    };
+    written.or(Err(Refusal::OutOfMemory))
+}
+
+/// Adds a list of numbers.
+fn put_list(numbers: &[u64], out: &mut Vec<u8>) -> Result<(), Refusal> {
+    writeln!(out, "{numbers:?}").or(Err(Refusal::OutOfMemory))
+}
+
+/// Adds a word where something is not as it is to be.
+fn put_unless(holds: bool, word: &str, out: &mut Vec<u8>) -> Result<(), Refusal> {
+    if holds {
+        return Ok(());
+    }
+    writeln!(out, "{word}").or(Err(Refusal::OutOfMemory))
+}
+
+/// Does what a line says of the gate, if it is one of these. Answers whether it is.
+fn play_gate<R: Wait + Clock>(
+    rt: &R,
+    alloc: Global,
+    board: &Board,
+    line: &str,
+    out: &mut Vec<u8>,
+) -> Result<bool, Refusal> {
+    let mut words = line.split_whitespace();
+    let word = words.next().unwrap_or("");
+    let post = board.post(words.next().unwrap_or(""));
+    let number: Option<u64> = words.next().and_then(|number| number.parse().ok());
+    match word {
+        "await" => put_unless(post.is_asked(rt, number.unwrap_or(1)), "never", out)?,
+        "let" => post.let_pass(number.unwrap_or(u64::MAX)),
+        "asked" => put_list(&post.numbers(rt, alloc)?, out)?,
+        "rows" => put_list(&board.workers(), out)?,
+        "rested" => put_unless(post.rest(rt).is_some_and(|rest| rest < 90), "late", out)?,
+        _ => return Ok(false),
+    }
+    Ok(true)
+}
+
+/// Does what a line says.
+fn play_line<N: ServedNaming, R: ServeRuntime>(
+    rt: &R,
+    alloc: Global,
+    desk: &Desk<N, Kept, Watch<R>, R>,
+    board: &Board,
+    caller: &mut Caller<N>,
+    line: &str,
+    out: &mut Vec<u8>,
+) -> Result<(), Refusal> {
+    let (word, rest) = line.split_once(" ").unwrap_or((line, ""));
+    let number: u64 = rest.parse().unwrap_or(0);
+    let is_last = rest == "last";
+    let called = desk.handle();
+    match word {
+        "submit" => put(caller.submit(called, Group::one(command_of(rest)?)), out),
+        "group" => match group_of(alloc, rest) {
+            Ok(group) => put(caller.submit(called, group), out),
+            Err(refusal) => put(Err(refusal), out),
+        },
+        "decline" => put(decline(called, command_of(rest)?), out),
+        "fill" => put(caller.fill(called, number), out),
+        "settle-each" => put(caller.settle_each(called, number), out),
+        "settle" => put(caller.settle(called, is_last), out),
+        "see" => put(caller.see(called, is_last), out),
+        "until" => match desk.wait_version(number) {
+            Ok(shown) => put(Ok(shown.groups().len()), out),
+            Err(refusal) => put(Err(refusal), out),
+        },
+        "look" => look(rt, alloc, &mut desk.reader()?, out),
+        "learn" => caller.learn(rt, alloc, called, out),
+        "watch" => caller.watch(rt, alloc, called, number, out),
+        "width" => put(width(called), out),
+        "wake" => put(wake(rt, alloc, called, board), out),
+        "callers" => put(callers(rt, alloc, called), out),
+        "readers" => put(all_readers(alloc, called), out),
+        "halt" => {
+            desk.halt();
+            Ok(())
+        }
+        "end-writing" => {
+            desk.end_writing();
+            Ok(())
+        }
+        _ => put_unless(play_gate(rt, alloc, board, line, out)?, "no such line", out),
+    }
+}
+
+/// A caller that has nothing yet.
+pub(crate) fn caller_of<N: Naming>(alloc: Global) -> Caller<N> {
+    Caller {
+        tickets: VecDeque::new(alloc),
+        receipts: Vec::new(alloc),
+        reader: None,
+    }
+}
+
+/// Does what the lines of a case's last text say, one after the other.
+pub(crate) fn play_moves<N: ServedNaming, R: ServeRuntime>(
+    rt: &R,
+    alloc: Global,
+    desk: &Desk<N, Kept, Watch<R>, R>,
+    board: &Board,
+    given: Given<'_, '_>,
+    caller: &mut Caller<N>,
+    out: &mut Vec<u8>,
+) -> Result<(), Refusal> {
+    let last = given.texts.len().saturating_sub(1);
+    for line in str::from_utf8(given.text(last)).unwrap_or("").lines() {
+        play_line(rt, alloc, desk, board, caller, line, out)?;
+    }
+    Ok(())
+}

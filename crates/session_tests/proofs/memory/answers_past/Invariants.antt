@@ -1,5 +1,0 @@
-use Rattle.session_tests.proofs.memory.answers_past.Given as goal
-
--- the desk of the store that was just made; nothing is claimed of its disk
-abbrev pub ghosts-session_over : goal.ghosts-session_over
-ghosts-session_over g a = record { origin = a.history.origin; came_tidy = ⊥ }

@@ -21,7 +21,7 @@ OF_STORE = "for who keeps a store without a keeper"
 OF_DESK = "for who keeps a desk in a program of its own"
 OF_ARCS = "for who walks the grouped arcs without a search"
 OF_QUEUES = "for who searches with a queue of their own"
-OF_TESTS = "a look of tests alone, which may move to them"
+OF_PREMISE = "a file that keeps the premise of what is said of files"
 KEPT = {
     ("dimacs", None, "parse_gr"): IN_MEMORY,
     ("dimacs", None, "parse_ss"): IN_MEMORY,
@@ -41,10 +41,8 @@ KEPT = {
     ("store", "Store", "commit"): OF_STORE,
     ("desk", "Reader", "pin"): OF_DESK,
     ("office", "Closed", "confirm"): OF_DESK,
-    ("sessions", None, "serve_all"): OF_DESK,
-    ("filedisk", "FileDisk", "into_file"): OF_TESTS,
-    ("filedisk", "MemFile", "new"): OF_TESTS,
-    ("filedisk", "MemFile", "stop"): OF_TESTS,
+    ("filedisk", "MemFile", "new"): OF_PREMISE,
+    ("filedisk", "MemFile", "stop"): OF_PREMISE,
 }
 
 

@@ -1,10 +1,10 @@
 #!/usr/bin/env python3
 """Draws docs/power_cut.svg from docs/power_cut.table: of each write and sync of a flush what a cut within it may leave of each byte of the page, and the
-version that is opened behind it.
+version that is opened after it.
 
     tools/draw_power_cut.py [PROGRAM]
 
-With a program the table's versions are compared before with what it does: a rehearsal is cut within each call, by each kind of pick."""
+With a program the table's versions are first compared with what it does: a rehearsal is cut within each call, by each kind of pick."""
 import pathlib
 import subprocess
 import sys
@@ -30,7 +30,7 @@ STYLE = """.ground { fill: #ffffff; stroke: none } text { fill: #1b1f24 } .small
 
 
 def parts():
-    """Of each kind of place its columns: the call, what it is, the body's bytes, the gate's byte, and the version behind each pick."""
+    """Of each kind of place its columns: the call, what it is, the body's bytes, the gate's byte, and the version after each pick."""
     found = {}
     for line in (FOLDER / "power_cut.table").read_text().splitlines():
         if line and not line.startswith("#"):
@@ -81,11 +81,11 @@ def drawing(found):
     """The lines of the picture."""
     width = LEFT + COLUMN * max(len(columns) for columns in found.values()) + 10
     yield f'<svg xmlns="http://www.w3.org/2000/svg" viewBox="0 0 {width} {TOP_OF_PART + PART * len(found) - 30}" font-family="sans-serif" font-size="13" role="img" aria-labelledby="title">'
-    yield '  <title id="title">A power cut within a flush: what each byte of the page may be, and what is opened behind it</title>'
+    yield '  <title id="title">A power cut within a flush: what each byte of the page may be, and what is opened after it</title>'
     yield f"  <style>\n    {STYLE}\n  </style>"
     yield '  <rect class="ground" width="100%" height="100%"/>'
     yield '  <text class="head" x="20" y="28">A power cut within a flush</text>'
-    yield '  <text class="small" x="20" y="48">Each byte of the page by itself may be what stands here, after a cut within the call. "Any byte": old, new, or something else. A gate is open at 165 alone.</text>'
+    yield '  <text class="small" x="20" y="48">Each byte of the page may independently be what is shown here, after a cut within the call. "Any byte": old, new, or something else. A gate is open only at 165.</text>'
     for part, (place, columns) in enumerate(found.items()):
         y = TOP_OF_PART + PART * part
         yield f'  <text class="bold" x="20" y="{y}">{TITLES[place]}</text>'

@@ -1,10 +1,11 @@
 #!/usr/bin/env python3
-"""Runs three scripts with each growth of memory refused in turn, the first, the second and so on, until a run meets no refusal. Each line that
+"""Runs three scripts, and the calls on texts and stores, with each growth of memory refused in turn, the first, the second and so on, until a run meets no refusal. Each line that
 the program prints is compared with a fold of the keeper's machine, in which want of memory (11) leaves the state, and a growth refused in the
-disk in memory is a failure of that disk (43), which breaks the store. One growth is refused in a run, so one line differs at most.
+disk in memory is a failure of that disk (43), which breaks the store. One growth is refused in a run, so one line differs at most. Of the other calls all is told, or nothing is and the store is as it was; a command of
+`apply` that finds no memory is refused alone.
 
 Needs a C compiler, and the built program: crates/roadmark/out/roadmark, or the path that is given."""
-import heapq, os, subprocess, sys, tempfile
+import heapq, os, shutil, subprocess, sys, tempfile
 
 REFUSING = r"""
 #define _GNU_SOURCE
@@ -181,8 +182,84 @@ def judge(pages, script, lines, status, fault):
     return "answered whole" if machine.spare else "a line is a refusal, and the run went on"
 
 
+class Call:
+    """A call of the program on a store of its own: its words behind the store's name, what it prints, and what it may print where a growth is refused; else it prints nothing."""
+
+    def __init__(self, word, texts, told, spared=()):
+        self.word, self.texts, self.told, self.spared = word, texts, told, spared
+
+
+TEXTS = {"six.ss": "p aux sp ss 3/s 6/s 3/s 6", "six.p2p": "p aux sp p2p 2/q 1 6/q 6 1", "changes": "close 7/set 8 4"}
+CALLS = [
+    Call("once GR 1 6", [], "v 0/d 1 6 15"),
+    Call("batch GR", ["six.p2p"], "v 0/d 1 6 15/x 6 1"),
+    Call("create STORE GR", ["six.ss"], "ok 0"),
+    Call("ask STORE", ["six.p2p"], "v 0/d 1 6 15/x 6 1"),
+    Call("apply STORE", ["changes"], "ok 1/ok 2", ["no 11/ok 1", "ok 1/no 11"]),
+]
+
+
+def judge_call(call, before, after, lines, status, fault):
+    """Says what the call was refused; raises where it told anything else, or changed the store."""
+    told = "/".join(lines)
+    if status == 0 and told in (call.told, *call.spared):
+        return "answered whole" if told == call.told else "a line is a refusal, and the run went on"
+    if status == 0 or told or not fault.endswith("11 OutOfMemory"):
+        raise Wrong(f"status {status}, {fault}")
+    # Nothing is told, and nothing is there that was not before.
+    if after != before and not (before is None and after == b""):
+        raise Wrong(f"the store is another: {fault}")
+    return "nothing was written: 11 OutOfMemory"
+
+
+def sweep(name, program, room, words, judged, begin=lambda: None):
+    """Runs the program with each growth refused in turn, and judges each run."""
+    seen, growth, is_met = {}, 0, True
+    while is_met:
+        growth += 1
+        begin()
+        told = f"{room}/told"
+        where = dict(os.environ, LD_PRELOAD=f"{room}/refusing.so", REFUSED_GROWTH=str(growth), REFUSED_TOLD=told)
+        run = subprocess.run([program, *words], env=where, capture_output=True, text=True, timeout=60)
+        is_met = os.path.exists(told)
+        if is_met:
+            os.remove(told)
+        if run.returncode not in (0, 1):
+            raise SystemExit(f"{name}: growth {growth}: status {run.returncode}: {run.stderr}")
+        try:
+            what = judged(run.stdout.splitlines(), run.returncode, run.stderr.strip())
+        except Wrong as wrong:
+            raise SystemExit(f"{name}: growth {growth}: {wrong}\n{run.stdout}{run.stderr}")
+        if is_met:
+            seen[what] = seen.get(what, 0) + 1
+    print(f"{name}: {growth - 1} growths refused in turn")
+    for what, count in sorted(seen.items()):
+        print(f"    {count:4} {what}")
+
+
+def content(path):
+    """The bytes of a file, or None where it is not there."""
+    return open(path, "rb").read() if os.path.exists(path) else None
+
+
+def sweep_call(program, room, call, network):
+    """Runs a call so, each time on a store as it was before."""
+    store, kept = f"{room}/store", f"{room}/kept"
+
+    def begin():
+        if os.path.exists(store):
+            os.remove(store)
+        if not call.word.startswith("create"):
+            shutil.copyfile(kept, store)
+
+    words = [{"GR": network, "STORE": store}.get(word, word) for word in call.word.split()] + [f"{room}/{text}" for text in call.texts]
+    before = None if call.word.startswith("create") else content(kept)
+    sweep(call.word.split()[0], program, room, words, lambda *run: judge_call(call, before, content(store), *run), begin)
+
+
 def main():
     program = sys.argv[1] if len(sys.argv) > 1 else os.path.join(HERE, "../crates/roadmark/out/roadmark")
+    network = os.path.join(HERE, "../examples/six.gr")
     with tempfile.TemporaryDirectory() as room:
         with open(f"{room}/refusing.c", "w") as out:
             out.write(REFUSING)
@@ -190,27 +267,14 @@ def main():
         for name, (pages, script) in SCRIPTS.items():
             with open(f"{room}/script", "w") as out:
                 out.write(script.replace("/", "\n") + "\n")
-            seen, growth, is_met = {}, 0, True
-            while is_met:
-                growth += 1
-                told = f"{room}/told"
-                where = dict(os.environ, LD_PRELOAD=f"{room}/refusing.so", REFUSED_GROWTH=str(growth), REFUSED_TOLD=told)
-                words = [program, "rehearse", os.path.join(HERE, "../examples/six.gr"), f"{room}/script", "--journal", str(pages)]
-                run = subprocess.run(words, env=where, capture_output=True, text=True, timeout=60)
-                is_met = os.path.exists(told)
-                if is_met:
-                    os.remove(told)
-                if run.returncode not in (0, 1):
-                    raise SystemExit(f"{name}: growth {growth}: status {run.returncode}: {run.stderr}")
-                try:
-                    what = judge(pages, script, run.stdout.splitlines(), run.returncode, run.stderr.strip())
-                except Wrong as wrong:
-                    raise SystemExit(f"{name}: growth {growth}: {wrong}\n{run.stdout}{run.stderr}")
-                if is_met:
-                    seen[what] = seen.get(what, 0) + 1
-            print(f"{name}: {growth - 1} growths refused in turn")
-            for what, count in sorted(seen.items()):
-                print(f"    {count:4} {what}")
+            words = ["rehearse", network, f"{room}/script", "--journal", str(pages)]
+            sweep(name, program, room, words, lambda *run: judge(pages, script, *run))
+        for name, text in TEXTS.items():
+            with open(f"{room}/{name}", "w") as out:
+                out.write(text.replace("/", "\n") + "\n")
+        subprocess.run([program, "create", f"{room}/kept", network, f"{room}/six.ss"], check=True, capture_output=True)
+        for call in CALLS:
+            sweep_call(program, room, call, network)
 
 
 if __name__ == "__main__":

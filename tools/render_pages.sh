@@ -7,6 +7,7 @@ top=$(cd "$(dirname "${BASH_SOURCE[0]}")/.." && pwd)
 [ $# = 1 ] || { echo "usage: tools/render_pages.sh FOLDER" >&2; exit 2; }
 mkdir -p "$1/docs"
 into=$(realpath "$1")
+cd "$top"
 cat > "$into/style.html" <<'STYLE'
 <style>
 body { max-width: 60em; margin: 2em auto; padding: 0 1em; font: 16px/1.5 sans-serif; }

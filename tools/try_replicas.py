@@ -416,7 +416,7 @@ def without_majority(all, clients, readers, two):
     for member in two:
         member.start()
     assert not late, f"{len(late)} changes were told without a majority"
-    assert min(asked) > 100, asked
+    assert min(asked) > 10, asked
     print(f"faults: two of three members down for {end - began:.0f} s: no change was told, {asked} queries were answered on the three machines", flush=True)
 
 def all_at_once(all):
@@ -637,6 +637,7 @@ def main(words):
         return 2
     program, rest = pathlib.Path(words[0]).resolve(), words[1:]
     count = int(rest.pop(0)) if rest and rest[0].isdigit() else 10000
+    signal.signal(signal.SIGTERM, lambda number, frame: sys.exit(128 + number))
     folder = pathlib.Path(tempfile.mkdtemp(prefix="roadmark-replicas-"))
     all = All(program, folder)
     try:

@@ -1,9 +1,11 @@
 #!/usr/bin/env bash
 # Tries the package, its units and examples/haproxy.cfg under a systemd of their own, in a container over this machine's files, which stay as they are; its network is the loopback alone.
-#   tools/try_units.sh [PROGRAM [STEP..]]
-# PROGRAM is crates/roadmark/out/roadmark where none is given. It takes under five minutes, each step has a time limit, and nothing is left behind. Needs root, systemd-container, haproxy, openssl, socat,
+#   [TRY_TIMES=N] tools/try_units.sh [PROGRAM [STEP..]]
+# PROGRAM is crates/roadmark/out/roadmark where none is given. It takes under five minutes, each step has a time limit, and nothing is left behind. On a machine that has much else to do each limit is N
+# times longer. Needs root, systemd-container, haproxy, openssl, socat,
 # Python and what tools/package.sh needs. The steps stand in tools/try_units_steps.sh: all are taken, or `install` and those that are named.
 set -eu
+times=${TRY_TIMES:-1}
 here=$(cd "$(dirname "${BASH_SOURCE[0]}")" && pwd)
 fail() { echo "try_units: $1" >&2; exit 1; }
 
@@ -26,14 +28,15 @@ contain() {
 SuccessAction=poweroff
 FailureAction=poweroff
 [Service]
+Environment=TRY_TIMES=$times
 ExecStart=/bin/bash /try/try_units_steps.sh ${*:2}
 StandardOutput=append:/try/said
 StandardError=append:/try/said
-RuntimeMaxSec=320
+RuntimeMaxSec=$((320 * times))
 UNIT
   : > "$root/try/said"
   tail -n +1 -f "$root/try/said" &
-  UNIFIED_CGROUP_HIERARCHY=1 timeout -k 10 340 systemd-nspawn --quiet --directory="$root" --private-network --register=no --keep-unit --machine=try --link-journal=no --console=pipe --boot \
+  UNIFIED_CGROUP_HIERARCHY=1 timeout -k 10 $((340 * times)) systemd-nspawn --quiet --directory="$root" --private-network --register=no --keep-unit --machine=try --link-journal=no --console=pipe --boot \
     systemd.unit=try.service systemd.wants=basic.target > "$work/console" 2>&1 < /dev/null || true
   sleep 1
   cp "$root/try/said" "$work/said"

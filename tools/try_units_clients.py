@@ -14,11 +14,11 @@ import time
 ARCS = 8
 
 class Client(threading.Thread):
-    """Sets one arc again and again, and keeps what was told of it and what was sent behind that."""
+    """Sets one arc again and again, and keeps what was told of it, the version of that, and what was sent behind it."""
 
     def __init__(self, path: str, arc: int) -> None:
         super().__init__(daemon=True)
-        self.path, self.arc, self.told, self.sent, self.count, self.is_over = path, arc, 0, 0, 0, False
+        self.path, self.arc, self.told, self.version, self.sent, self.count, self.is_over = path, arc, 0, 0, 0, 0, False
         self.start()
 
     def run(self) -> None:
@@ -31,7 +31,8 @@ class Client(threading.Thread):
 
     def session(self) -> None:
         with socket.socket(socket.AF_UNIX) as connection:
-            connection.settimeout(30)
+            # Long, since a line of a session that was given up could be carried out behind one of the next.
+            connection.settimeout(300)
             connection.connect(self.path)
             answers = connection.makefile("r")
             while not self.is_over:
@@ -40,24 +41,26 @@ class Client(threading.Thread):
                 answer = answers.readline()
                 if not answer.startswith("ok "):
                     return
-                self.told, self.count = self.sent, self.count + 1
+                self.told, self.version, self.count = self.sent, int(answer.split()[1]), self.count + 1
 
-def length_of(path: str, arc: int) -> int:
-    """By a session that is tried again while the server is being started."""
-    until = time.monotonic() + 60
+def length_of(path: str, arc: int, version: int) -> int:
+    """In this version or a later one, since another session may be shown an older one for a while. By a session that is tried again while the server is being started."""
+    until = time.monotonic() + 300
     while True:
         try:
             with socket.socket(socket.AF_UNIX) as connection:
-                connection.settimeout(30)
+                connection.settimeout(60)
                 connection.connect(path)
-                connection.sendall(f"arc {arc}\n".encode())
+                connection.sendall(f"until {version}\narc {arc}\n".encode())
                 answers = connection.makefile("r")
-                answers.readline()
-                return int(answers.readline().split()[4])
+                if answers.readline().startswith("v "):
+                    answers.readline()
+                    return int(answers.readline().split()[4])
         except (OSError, IndexError):
-            if time.monotonic() > until:
-                raise
-            time.sleep(0.5)
+            pass
+        if time.monotonic() > until:
+            raise SystemExit(f"arc {arc} was not told")
+        time.sleep(0.5)
 
 def kill(path: str, clients: int, kills: int) -> bool:
     writers = [Client(path, 1 + number % ARCS) for number in range(clients)]
@@ -68,14 +71,14 @@ def kill(path: str, clients: int, kills: int) -> bool:
     for writer in writers:
         writer.is_over = True
     for writer in writers:
-        writer.join(40)
+        writer.join(300)
     lost = [arc for arc in range(1, 1 + min(clients, ARCS)) if not is_kept(path, arc, [writer for writer in writers if writer.arc == arc])]
     print(f"        {sum(writer.count for writer in writers)} changes told, lost at the arcs {lost}")
     return not lost and all(writer.count for writer in writers)
 
 def is_kept(path: str, arc: int, writers: list[Client]) -> bool:
     """The arc has what one of its clients was told last, or has sent since. Where none was told anything, nothing can be lost."""
-    length = length_of(path, arc)
+    length = length_of(path, arc, max(writer.version for writer in writers))
     return not any(writer.told for writer in writers) or any(writer.told <= length <= writer.sent for writer in writers)
 
 def by_haproxy(port: int) -> ssl.SSLSocket:

@@ -6,6 +6,8 @@ examples=/usr/share/doc/roadmark/examples
 pairs=/run/roadmark/pairs
 client=/run/roadmark-client.sock
 units='roadmark.service roadmark-client.socket roadmark-ask.socket'
+# So many times longer is each time limit.
+times=${TRY_TIMES:-1}
 
 # is NAME WANTED SEEN
 is() {
@@ -19,16 +21,16 @@ holds() {
 }
 # within NAME SECONDS COMMAND..: it succeeds in so many seconds
 within() {
-  local name=$1 seconds=$2 began=$SECONDS
+  local name=$1 seconds=$(($2 * times)) began=$SECONDS
   shift 2
   if timeout "$seconds" "$@" > /dev/null 2>&1; then echo "ok      $name ($((SECONDS - began)) s)"; else echo "FAILED  $name: not within $seconds s: ${*@Q}"; fi
 }
 # ask LINES [SECONDS [SOCKET]]: the answers to lines, on one line.
-ask() { printf "$1" 2> /dev/null | timeout "${2:-20}" socat -t "${2:-20}" - "UNIX-CONNECT:${3:-$client}" 2>&1 | paste -sd /; }
+ask() { printf "$1" 2> /dev/null | timeout "$((${2:-20} * times))" socat -t "$((${2:-20} * times))" - "UNIX-CONNECT:${3:-$client}" 2>&1 | paste -sd /; }
 # until_answers SECONDS: the seconds until a client is answered
 until_answers() {
   local began=$SECONDS
-  while [ $((SECONDS - began)) -lt "$1" ]; do
+  while [ $((SECONDS - began)) -lt "$(($1 * times))" ]; do
     case $(ask 'dist 1 6\n' 5) in *'d 1 6 '*) echo "$((SECONDS - began))"; return ;; esac
     sleep 0.2
   done
@@ -136,7 +138,7 @@ step_no_server() {
   mkdir -p /try/nobody && mkfifo /try/nobody/1.in /try/nobody/1.out /try/nobody/2.in /try/nobody/2.out
   printf 'dist 1 6\n' | timeout 60 /usr/lib/roadmark/attach.sh /try/nobody > /try/told 2>&1 || status=$?
   is 'attach.sh without a server ends with status 1' 1 "$status"
-  holds "and says so, within 15 s ($((SECONDS - began)) s)" test "$((SECONDS - began))" -le 15 -a -s /try/told
+  holds "and says so, within 15 s ($((SECONDS - began)) s)" test "$((SECONDS - began))" -le "$((15 * times))" -a -s /try/told
   flock --shared "$store" sleep 6 &
   sleep 0.2
   systemctl kill --signal=KILL roadmark.service
@@ -172,7 +174,7 @@ step_full_disk() {
   systemctl start roadmark.service
   answered 20
   dd if=/dev/zero of=/var/lib/roadmark/filler bs=4k status=none 2> /dev/null
-  is 'with a full disk 300 changes are durable' 300 "$(seq 300 | sed 's/.*/set 8 &/' | timeout 20 socat -t 20 - "UNIX-CONNECT:$client" | grep -c '^ok ')"
+  is 'with a full disk 300 changes are durable' 300 "$(seq 300 | sed 's/.*/set 8 &/' | timeout "$((20 * times))" socat -t "$((20 * times))" - "UNIX-CONNECT:$client" | grep -c '^ok ')"
   is 'a copy is refused' 'no 43' "$(ask 'copy full\n')"
   is 'and leaves nothing' '' "$(ls /var/lib/roadmark/copies)"
   systemctl kill --signal=KILL roadmark.service
@@ -198,14 +200,14 @@ make_certificates() {
 # health STATE SECONDS: haproxy's metrics tell that state of the server
 health() {
   local began=$SECONDS
-  while [ $((SECONDS - began)) -lt "$2" ]; do
+  while [ $((SECONDS - began)) -lt "$(($2 * times))" ]; do
     ! printf 'GET /metrics HTTP/1.0\r\n\r\n' | timeout 5 socat -t 5 - TCP:127.0.0.1:8405 | grep -q "^haproxy_server_status{proxy=\"roadmark\",server=\"local\",state=\"$1\"} 1" || return 0
     sleep 0.5
   done
   return 1
 }
 # by_network CERTIFICATE: the answer to a client with that certificate
-by_network() { printf 'dist 1 6\n' | timeout 15 socat -t 10 - "OPENSSL:127.0.0.1:7322,commonname=localhost,cafile=/try/known.crt$1" 2> /dev/null | paste -sd /; }
+by_network() { printf 'dist 1 6\n' | timeout "$((15 * times))" socat -t "$((10 * times))" - "OPENSSL:127.0.0.1:7322,commonname=localhost,cafile=/try/known.crt$1" 2> /dev/null | paste -sd /; }
 
 step_haproxy() {
   fresh_store
@@ -244,7 +246,7 @@ step_security() {
 http() {
   python3 - "$@" <<'PYTHON'
 import http.client, sys
-line = http.client.HTTPConnection("127.0.0.1", 5000, timeout=20)
+line = http.client.HTTPConnection("127.0.0.1", 5000, timeout=60)
 try:
     line.request(sys.argv[1], sys.argv[2], sys.argv[3] if len(sys.argv) > 3 else None, {"Authorization": "Bearer " + open("/etc/roadmark/token").read().strip()})
     answer = line.getresponse()
@@ -311,6 +313,7 @@ step_follow() {
 }
 
 step_package() {
+  fresh_store
   systemctl start roadmark.service
   answered 20
   ask 'set 3 77\nwait\n' > /dev/null
@@ -334,7 +337,7 @@ case ${1:-} in
 esac
 for step in install ${*:-stop comes_back burst kill no_server gone_client full_disk haproxy security follow web package}; do
   echo "$step"
-  timeout -k 5 100 bash "$0" --step "$step" || echo "FAILED  $step: it ended with $?"
+  timeout -k 5 "$((100 * times))" bash "$0" --step "$step" || echo "FAILED  $step: it ended with $?"
 done
 # What the units told, where something failed.
 ! grep -q '^FAILED' /try/said || journalctl --boot --no-pager --output short-precise --unit 'roadmark*' --unit haproxy.service | grep -v 'A client of roadmark\|roadmark-client@' | tail -n 150 > /try/journal

@@ -133,10 +133,9 @@ map.on("click", (event) => {
     state.centre = event.latlng;
   } else {
     state.ends = state.ends.length === 2 ? [event.latlng] : [...state.ends, event.latlng];
-    if (state.ends.length === 1) {
-      drawEnds([[event.latlng.lng, event.latlng.lat]]);
-      $("distance").textContent = "Click where to.";
-    }
+    // As they were clicked, until the answer says where the network has them.
+    drawEnds(state.ends.map((point) => [point.lng, point.lat]));
+    $("distance").textContent = state.ends.length === 1 ? "Click where to." : "..";
   }
   followed();
 });

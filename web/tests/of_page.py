@@ -176,6 +176,7 @@ class Pages:
         self.page.click(*self.source)
         self.page.click(*self.target)
         self.page.until(lambda: "no answer now" in self.page.text("message"), "it says that there is no answer")
+        true(self.page.script("return layers.ends.getLayers().length") == 2 and self.page.text("distance") == "..", "what was clicked is not shown")
         self.page.shot("6-no-server")
         self.stand.start_server()
         self.page.until(lambda: self.page.text("server").startswith("version"), "the server is back")

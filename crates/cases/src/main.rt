@@ -12,17 +12,27 @@ mod worded;
 
 use blocks::{Calls, Given, run_files};
 use std::alloc::Global;
+use std::env::Env;
+use std::fs::Files;
 use std::io;
 use std::process::ExitCode;
+use std::thread::Threads;
 use stores::{CALLS, Made};
 
-fn main(rt: HostRuntime) -> io::Result<ExitCode> {
-    let made = Made::new(&rt);
+/// Runs the files with this disk, which their blocks share.
+fn run_with<R: AllocGlobal + Env + Eprint + Files + Input + Threads + Copy>(
+    rt: &R,
+    made: &Made<R>,
+) -> io::Result<ExitCode> {
     let calls = Calls {
         table: CALLS,
         make: |alloc: Global, given: Given<'_, '_>, out: &mut Vec<u8>| -> io::Result<()> {
             made.call(alloc, given, out)
         },
     };
-    run_files(&rt, &calls)
+    run_files(rt, &calls)
+}
+
+fn main(rt: HostRuntime) -> io::Result<ExitCode> {
+    run_with(&rt, &Made::new(rt))
 }

@@ -55,8 +55,8 @@ pub(crate) const CALLS: &[Call] = &[
 
 /// The disk that the blocks so far have left.
 #[derive(Drop)]
-pub(crate) struct Made<'r, R> {
-    rt: &'r R,
+pub(crate) struct Made<R> {
+    rt: R,
     disk: RefCell<Option<MemDisk>>,
 }
 
@@ -132,9 +132,9 @@ fn call_on<T: Threads>(
     Ok(disk)
 }
 
-impl<'r, R: Threads> Made<'r, R> {
+impl<R: Threads + Copy> Made<R> {
     /// No store is there yet.
-    pub(crate) fn new(rt: &'r R) -> Made<'r, R> {
+    pub(crate) fn new(rt: R) -> Made<R> {
         Made {
             rt,
             disk: RefCell::new(None),
@@ -165,7 +165,7 @@ impl<'r, R: Threads> Made<'r, R> {
     fn call_store(&self, alloc: Global, given: Given<'_, '_>, out: &mut Vec<u8>) -> io::Result<()> {
         let mut disk = self.take(alloc, given.is_first)?;
         let before = bytes_of(alloc, &mut disk)?;
-        let mut disk = call_on(self.rt, alloc, given, disk, out)?;
+        let mut disk = call_on(&self.rt, alloc, given, disk, out)?;
         if given.head.has("keeping") {
             let is_same = bytes_of(alloc, &mut disk)?.as_slice() == before.as_slice();
             writeln!(out, "{}", if is_same { "kept" } else { "changed" })?;
@@ -202,7 +202,7 @@ impl<'r, R: Threads> Made<'r, R> {
             "gr" | "ss" | "p2p" | "commands" | "script" => put_text(alloc, given, out),
             "gr-before-run" => put_before_run(alloc, given, out),
             "once" | "batch" | "table" | "reach" | "reached" | "pairs" | "joint" | "rehearse" => {
-                put_answers(self.rt, alloc, given, out)
+                put_answers(&self.rt, alloc, given, out)
             }
             "create"
             | "copy"

@@ -50,7 +50,7 @@ use blocks::{Call, Calls, Given, run_files};
 use playing::play;
 use program::ServerRuntime;
 use std::alloc::Global;
-use std::env;
+use std::env::{self, Env};
 use std::io::{self, ErrorKind};
 use std::process::{self, ExitCode};
 
@@ -73,15 +73,30 @@ where
     }
 }
 
+/// Where transcripts are played.
+#[derive(Drop)]
+struct Place<R> {
+    rt: R,
+    folder: String,
+}
+
+/// Plays the transcripts of the files.
+fn play_at<R: ServerRuntime + Env + Input>(rt: &R, place: &Place<R>) -> io::Result<ExitCode>
+where
+    R::Dir: Send + 'static,
+{
+    let calls = Calls {
+        table: CALLS,
+        make: |_alloc: Global, given: Given<'_, '_>, out: &mut Vec<u8>| -> io::Result<()> {
+            play_text(&place.rt, place.folder.as_str(), given.text(0), out)
+        },
+    };
+    run_files(rt, &calls)
+}
+
 fn main(rt: HostRuntime) -> io::Result<ExitCode> {
     let temporary = env::temp_dir(&rt)?;
     let id = process::id(rt.process());
     let folder = format!(in rt.alloc(); "{}/transcript-{id}", temporary.as_str())?;
-    let calls = Calls {
-        table: CALLS,
-        make: |_alloc: Global, given: Given<'_, '_>, out: &mut Vec<u8>| -> io::Result<()> {
-            play_text(&rt, folder.as_str(), given.text(0), out)
-        },
-    };
-    run_files(&rt, &calls)
+    play_at(&rt, &Place { rt, folder })
 }

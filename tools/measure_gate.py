@@ -1,0 +1,76 @@
+#!/usr/bin/env python3
+"""Runs the gate, and tells what each crate took of it: a table for docs/CONTRIBUTING.md.
+
+    tools/measure_gate.py [--anew] [WORD ..]     runs `rt ci` with these words at the top of this repository, and then prints the table
+    tools/measure_gate.py --watch PID            watches a gate that runs already, until the process PID ends
+
+Looks twice a second at each prover below the gate's process. A crate's proof, its tests and its edits (with the proofs that they begin with) are told in
+processor seconds, with the most memory that one of its provers took. `minute` is when its proof ended by the clock. Crates that an earlier run kept are missing."""
+import collections
+import os
+import pathlib
+import subprocess
+import sys
+import time
+
+TOP = pathlib.Path(__file__).resolve().parent.parent
+TICK, PAGE = os.sysconf("SC_CLK_TCK"), os.sysconf("SC_PAGE_SIZE")
+
+def look(pid):
+    """The words, the parent, the processor seconds and the bytes of a process, if it is there."""
+    try:
+        words = pathlib.Path(f"/proc/{pid}/cmdline").read_bytes().decode(errors="replace").split("\0")
+        fields = pathlib.Path(f"/proc/{pid}/stat").read_text().rsplit(")", 1)[1].split()
+        held = int(pathlib.Path(f"/proc/{pid}/statm").read_text().split()[1]) * PAGE
+    except (OSError, IndexError, ValueError):
+        return None
+    return words, int(fields[1]), (int(fields[11]) + int(fields[12])) / TICK, held
+
+def kind_of(words):
+    if "--incremental" in words:
+        return "edits"
+    return "tests" if "--test" in words else "proof"
+
+def watch(gate, is_running):
+    """What each prover below the process `gate` took, by its number: crate, kind, seconds, bytes, and when it was last seen."""
+    begun, provers = time.monotonic(), {}
+    while is_running():
+        seen = {int(it): look(it) for it in os.listdir("/proc") if it.isdigit()}
+        for pid, found in seen.items():
+            if not found or not found[0][0].endswith("/rattle") or "--crate-name" not in found[0]:
+                continue
+            above = found[1]
+            while above != gate and seen.get(above):
+                above = seen[above][1]
+            if above == gate:
+                words, _, seconds, held = found
+                most = max(held, provers[pid][3] if pid in provers else 0)
+                provers[pid] = words[words.index("--crate-name") + 1], kind_of(words), seconds, most, time.monotonic() - begun
+        time.sleep(0.5)
+    return provers.values()
+
+def table(provers):
+    took, most, ended = collections.defaultdict(collections.Counter), collections.Counter(), {}
+    for crate, kind, seconds, held, last in provers:
+        took[crate][kind] += seconds
+        most[crate] = max(most[crate], held)
+        if kind == "proof":
+            ended[crate] = max(last, ended.get(crate, 0))
+    print("| Crate | Proof, s | Tests, s | Edits, s | Memory, GB | Minute |\n|---|---|---|---|---|---|")
+    for crate in sorted(took, key=lambda it: -took[it].total()):
+        figures = [f"{took[crate][kind]:.0f}" if took[crate][kind] else "" for kind in ("proof", "tests", "edits")]
+        print(f"| `{crate}` | {' | '.join(figures)} | {most[crate] / 1e9:.1f} | {ended.get(crate, 0) / 60:.0f} |")
+    sums = [sum(it[kind] for it in took.values()) / 60 for kind in ("proof", "tests", "edits")]
+    print(f"| all, in minutes | {' | '.join(f'{it:.0f}' for it in sums)} | | |")
+
+def main(words):
+    if words[:1] == ["--watch"]:
+        gate = int(words[1])
+        table(watch(gate, lambda: os.path.exists(f"/proc/{gate}")))
+        return 0
+    gate = subprocess.Popen(["rt", "ci", *words], cwd=TOP)
+    table(watch(gate.pid, lambda: gate.poll() is None))
+    return gate.returncode
+
+if __name__ == "__main__":
+    sys.exit(main(sys.argv[1:]))

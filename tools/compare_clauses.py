@@ -8,7 +8,9 @@ docs/PROMISES.md has to be one that `main` reaches, by names alone, or a law: a 
 code. With --list it writes every public function that has a contract, crate by crate, to standard
 output, with the first sentence of its comment and the names of its clauses, and marks those that
 `main` does not reach.
+A lone clause that is a record of the crate's definitions has the record's fields as its clauses.
 """
+import functools
 import pathlib
 import re
 import sys
@@ -16,7 +18,7 @@ import sys
 TOP = pathlib.Path(__file__).resolve().parent.parent
 NAME = re.compile(r"`([^`]+)`")
 FUNCTION = re.compile(r"( *)(pub(?:\([a-z]+\))? )?(?:ghost )?fn (\w+)")
-CLAUSE = re.compile(r" *ensures\*? (?:(\w+) )?\{")
+CLAUSE = re.compile(r" *ensures\*? (?:(\w+) )?\{ *(\w*)")
 CALLED = re.compile(r"\b([a-z_]\w*)\b")
 
 
@@ -38,11 +40,24 @@ class Function:
         clause = CLAUSE.match(line)
         if clause and not self.body:
             self.has_contract = True
-            self.clauses += [clause[1]] if clause[1] else []
+            self.clauses += [clause[1]] if clause[1] else records(self.crate).get(clause[2], [])
         self.is_law = self.is_law or not self.body and line.strip() == "{}"
         self.body = self.body or line.rstrip().endswith("{") and not re.match(r" *\w+\*? ", line)
         if not re.match(r" *(ensures|requires|//|ghost)", line):
             self.called |= set(CALLED.findall(line))
+
+
+@functools.cache
+def records(crate):
+    """The records of a crate's definitions, each with the names of its fields."""
+    found, fields = {}, []
+    for source in sorted((TOP / "crates" / crate / "specs").glob("*.antt")):
+        for line in source.read_text().splitlines():
+            if head := re.match(r"pub record (\w+)", line):
+                fields = found.setdefault(head[1], [])
+            elif field := re.match(r"  pub (\w+) :", line):
+                fields.append(field[1])
+    return found
 
 
 def type_of(head):

@@ -1,19 +1,24 @@
 -- What the file of a store of either format stands for, and a room for its network.
-use Rattle.std.proofs.Common.{◌≡◌, ℕ, ◌+◌, List, length, Option, Some, Result, Ok, Err, refl, sym, ◌∙◌, ap, subst, inl, inr}
-use Rattle.std.specs.Prelude.{◌↔◌, ◌⊎◌, unwrap_or, IfOk, IfErr}
+use Rattle.std.proofs.Common.{◌≡◌, ℕ, ◌+◌, List, ◌∷◌, length, Option, Some, Result, Ok, Err, refl, sym, ◌∙◌, ap, subst, inl, inr, arith}
+use Rattle.std.specs.Prelude.{◌≢◌, ◌↔◌, ◌⊎◌, [], unwrap_or, IfOk, IfErr, OnOk, MatchResult}
 use Rattle.roadnet.specs.declared.refusals.Refusal.{Refusal}
 use Rattle.roadnet.specs.declared.refusals.Refusal.TheVariants.{NotEmpty, OutOfMemory, Device}
 use Rattle.roadnet.specs.Net.{Net, IsRoomFor}
 use Rattle.pages.specs.declared.header.Header.{Header}
 use Rattle.pages.specs.declared.content.Format.{Format}
-use Rattle.disk.specs.Contents.{Only}
+use Rattle.disk.specs.declared.disk.Disk.{Ghosts}
+use Rattle.disk.specs.Contents.{Only, one_more}
+use Rattle.disk.specs.Moments.{StaysSame}
+use Rattle.disk.proofs.Steps.{same_twice}
+use Rattle.pagereader.specs.Outcomes.{failures_with}
 use Rattle.storefile.specs.StoreFile.{page, Stored, HoldsNetwork, StandsTidyFor, groups_of, next_sequence}
 use Rattle.storefile.specs.Judging.{opened_in}
 use Rattle.storefile.specs.Standing.{Standing, standing_in}
 use Rattle.storefile.proofs.Whole.{opened_is}
-use Rattle.store.specs.Migrating.{room_of, roomed, IsCopyIn, HasNoSuchRoom, IsRefusedForOld}
+use Rattle.store.specs.Created.{IsNewFile}
+use Rattle.store.specs.Migrating.{room_of, roomed, IsCopyIn, HasNoSuchRoom, IsRefusedForNew, IsRefusedForOld, CountsFailure, CountsCopy, MayEndCopying, Copies}
 use Rattle.store.specs.Opening.{HeaderFitsIn}
-use Rattle.store.specs.State.{StoreState, checkpoint_pages_of}
+use Rattle.store.specs.State.{StoreState, checkpoint_pages_of, IsCountedBy}
 
 abbrev standing_by : Stored × Net → Standing
 standing_by x = record { header = x.0.header; slot = x.0.slot; epoch = x.0.epoch; network = x.1; version = x.0.version + length (groups_of x.0); next = next_sequence x.0; unchecked = length x.0.unchecked }
@@ -90,3 +95,93 @@ all_for_old (Ok store) format old room fits why = tt
 all_for_old (Err refused) format old room fits (inl e) = subst (IsRefusedForOld format old room) (sym e) tt
 all_for_old (Err refused) format old room fits (inr (inl e)) = subst (IsRefusedForOld format old room) (sym e) tt
 all_for_old (Err refused) format old room fits (inr (inr e)) = subst (IsRefusedForOld format old room) (sym e) fits
+
+pub all_new : {D E : Type 0} (r : Result (StoreState D) E) (content : D → List ℕ) (net : Net) (version journal_pages : ℕ) → IfOk r (λ store. store.network ≡ net) → IfOk r (λ store. store.version ≡ version)
+    → IfOk r (λ store. store.journal_pages ≡ journal_pages) → IfOk r (λ store. IsNewFile journal_pages net version (content store.disk)) → IfOk r (λ store. IsNewFile store.journal_pages store.network store.version (content store.disk))
+all_new (Ok store) content net version journal_pages same version_is pages_are made = rw (same, version_is, pages_are) made
+all_new (Err why) content net version journal_pages same version_is pages_are made = tt
+
+pub all_parts : {D E : Type 0} (r : Result (StoreState D) E) (net : Net) → IfOk r (λ store. store.network ≡ net) → IfOk r (λ store. store.checkpoint_pages ≡ checkpoint_pages_of (length net.arcs) net)
+    → IfOk r (λ store. store.checkpoint_pages ≡ checkpoint_pages_of (length store.network.arcs) store.network)
+all_parts (Ok store) net same parts_are = rw same parts_are
+all_parts (Err why) net same parts_are = tt
+
+pub all_empty : {D E : Type 0} (r : Result (StoreState D) E) (content before : List ℕ) → content ≡ before → IfOk r (λ store. content ≡ []) → OnOk r (before ≡ [])
+all_empty (Ok store) content before same none = sym same ∙ none
+all_empty (Err why) content before same none = tt
+
+pub no_bytes : (content : List ℕ) → length content ≡ 0 → content ≡ []
+no_bytes [] none = refl
+no_bytes (x ∷ content) none = absurd (omega arith)
+
+-- ---- why none is made
+
+abbrev IsRefusedSo : Refusal → Type 0
+IsRefusedSo refusal = (refusal ≡ NotEmpty) ⊎ ((refusal ≡ Device) ⊎ (refusal ≡ OutOfMemory))
+
+for_new : (refusal : Refusal) (content before : List ℕ) → content ≡ before → IsRefusedSo refusal → (refusal ≡ NotEmpty → content ≢ []) → (refusal ≡ OutOfMemory → content ≡ []) → IsRefusedForNew before refusal
+for_new refusal content before same (inl e) full none = subst (IsRefusedForNew before) (sym e) (λ empty. full e (same ∙ empty))
+for_new refusal content before same (inr (inl e)) full none = subst (IsRefusedForNew before) (sym e) tt
+for_new refusal content before same (inr (inr e)) full none = subst (IsRefusedForNew before) (sym e) (sym same ∙ none e)
+
+pub all_for_new : {D : Type 0} (r : Result (StoreState D) (Refusal × D)) (content before : List ℕ) → content ≡ before → IfErr r (λ refused. IsRefusedSo refused.0)
+    → IfErr r (λ refused. refused.0 ≡ NotEmpty → content ≢ []) → IfErr r (λ refused. refused.0 ≡ OutOfMemory → content ≡ []) → IfErr r (λ refused. IsRefusedForNew before refused.0)
+all_for_new (Ok store) content before same why full none = tt
+all_for_new (Err refused) content before same why full none = for_new refused.0 content before same why full none
+
+cause : (refusal : Refusal) → IsRefusedSo refusal → MayEndCopying refusal
+cause refusal (inl e) = subst MayEndCopying (sym e) refl
+cause refusal (inr (inl e)) = subst MayEndCopying (sym e) refl
+cause refusal (inr (inr e)) = subst MayEndCopying (sym e) refl
+
+pub all_causes : {D : Type 0} (r : Result (StoreState D) (Refusal × D)) → IfErr r (λ refused. IsRefusedSo refused.0) → IfErr r (λ refused. MayEndCopying refused.0)
+all_causes (Ok store) why = tt
+all_causes (Err refused) why = cause refused.0 why
+
+counted : (refusal : Refusal) (old old' new mid new' : ℕ) → IsRefusedSo refusal → old' ≡ old → mid ≡ new → new' ≡ failures_with refusal mid → CountsFailure refusal old old' new new'
+counted refusal old old' new mid new' (inl e) same read told = subst (λ (r : Refusal). CountsFailure r old old' new new') (sym e) (same, told ∙ ap (λ (r : Refusal). failures_with r mid) e ∙ read)
+counted refusal old old' new mid new' (inr (inl e)) same read told = subst (λ (r : Refusal). CountsFailure r old old' new new') (sym e) (inr (same, told ∙ ap (λ (r : Refusal). failures_with r mid) e ∙ ap one_more read))
+counted refusal old old' new mid new' (inr (inr e)) same read told = subst (λ (r : Refusal). CountsFailure r old old' new new') (sym e) (same, told ∙ ap (λ (r : Refusal). failures_with r mid) e ∙ read)
+
+pub all_counted : {O D : Type 0} (r : Result (StoreState D) (Refusal × D)) (of_old : O → ℕ) (of_new : D → ℕ) (old old' : O) (new mid : D) → of_old old' ≡ of_old old → of_new mid ≡ of_new new → IfErr r (λ refused. IsRefusedSo refused.0)
+    → MatchResult r (λ store. of_new store.disk ≡ of_new mid) (IsCountedBy of_new mid) → CountsCopy of_old of_new old old' new r
+all_counted (Ok store) of_old of_new old old' new mid same read why told = (same, told ∙ read)
+all_counted (Err refused) of_old of_new old old' new mid same read why told = counted refused.0 (of_old old) (of_old old') (of_new new) (of_new mid) (of_new refused.1) why same read told
+
+pub all_same : {D : Type 0} (disk : Ghosts D) (r : Result (StoreState D) (Refusal × D)) (before mid : D) → StaysSame disk.content disk.left disk.moment disk.left_since before mid
+    → IfErr r (λ refused. refused.0 ≢ Device → StaysSame disk.content disk.left disk.moment disk.left_since mid refused.1)
+    → IfErr r (λ refused. refused.0 ≢ Device → StaysSame disk.content disk.left disk.moment disk.left_since before refused.1)
+all_same disk (Ok store) before mid first second = tt
+all_same disk (Err refused) before mid first second = λ other. same_twice disk.moment disk.left_since disk.content disk.left before mid refused.1 first (second other)
+
+-- the new disk is handed back
+pub refused_so : {O D : Type 0} (from : Ghosts O) (to : Ghosts D) (format : Format) (room journal : Option ℕ) (old old' : O) (new new' : D) (refusal : Refusal)
+    → (to.honest new → IsRefusedForNew (to.content new) refusal) → (from.honest old → IsRefusedForOld format (from.content old) room refusal) → MayEndCopying refusal
+    → CountsFailure refusal (from.failures old) (from.failures old') (to.failures new) (to.failures new') → (from.honest old → StaysSame from.content from.left from.moment from.left_since old old')
+    → (to.honest new → refusal ≢ Device → StaysSame to.content to.left to.moment to.left_since new new') → from.honest old' ↔ from.honest old → to.honest new' ↔ to.honest new
+    → Copies from to format room journal old old' new (Err (refusal, new'))
+refused_so from to format room journal old old' new new' refusal for_new for_old cause counts untouched same honest honest_new = record {
+  copied = λ h. tt;
+  stands = λ h. tt;
+  made = λ h. tt;
+  empty = λ h. tt;
+  only = λ h. tt;
+  left = λ h. tt;
+  tidy = λ h. tt;
+  told = λ h. tt;
+  checkpoint_pages = tt;
+  unchecked = tt;
+  slot = tt;
+  works = tt;
+  none_going = tt;
+  none_in_flight = tt;
+  given = tt;
+  refused_for_new = for_new;
+  refused_for_old = for_old;
+  causes = cause;
+  counted = counts;
+  untouched = untouched;
+  same = same;
+  honest = honest;
+  honest_new = (tt, honest_new);
+}

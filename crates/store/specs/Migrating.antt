@@ -1,15 +1,18 @@
 -- What a store that is made of another one is, and why there is none: a copy, or one of format 1 that is migrated.
-use Rattle.std.specs.Prelude.{◌≡◌, ◌≢◌, ◌⊎◌, ⊤, ℕ, Bool, true, IsTrue, List, [], Option, Some, None, unwrap_or, Result, MatchResult}
+use Rattle.std.specs.Prelude.{◌≡◌, ◌≢◌, ◌⊎◌, ◌↔◌, ⊤, ℕ, Bool, true, false, IsTrue, List, [], length, Option, Some, None, unwrap_or, Result, MatchResult, IfOk, IfErr, OnOk}
 use Rattle.roadnet.specs.declared.refusals.Refusal.{Refusal}
 use Rattle.roadnet.specs.declared.refusals.Refusal.TheVariants.{NotEmpty, TooLarge, OutOfMemory, Device}
 use Rattle.roadnet.specs.Net.{Net, IsRoomFor}
 use Rattle.pages.specs.declared.content.Format.{Format}
-use Rattle.pages.specs.declared.content.Format.TheVariants.{One, Two}
+use Rattle.pages.specs.declared.content.Slot.TheVariants.{A}
 use Rattle.pagereader.specs.Outcomes.{ends_opening}
 use Rattle.storefile.specs.StoreFile.{Stored, HoldsNetwork}
-use Rattle.disk.specs.Contents.{one_more}
+use Rattle.disk.specs.declared.disk.Disk.{Ghosts}
+use Rattle.disk.specs.Contents.{one_more, Only}
+use Rattle.disk.specs.Moments.{StaysSame}
+use Rattle.store.specs.Created.{IsNewFile}
 use Rattle.store.specs.Opening.{HeaderFitsIn}
-use Rattle.store.specs.State.{StoreState}
+use Rattle.store.specs.State.{StoreState, checkpoint_pages_of, IsDurable, IsTidy, HasTold, told as told_of_store}
 use Rattle.storefile.specs.Judging.{judged_in}
 
 -- the room that is given, or that which the network has
@@ -31,14 +34,6 @@ pub record IsCopyIn (format : Format) (old : List ℕ) (net : Net) (version jour
   pub format_is : stored.header.format ≡ format
   pub pages_are : journal_pages ≡ unwrap_or journal stored.header.journal_pages
   pub network_is : net ≡ roomed before room
-
--- the same of the format in which stores are made and opened
-abbrev pub IsCopy : List ℕ → Net → ℕ → ℕ → Option ℕ → Option ℕ → Type 0
-IsCopy old net version journal_pages room journal = IsCopyIn Two old net version journal_pages room journal
-
--- the same of format 1, with the journal pages of the old store
-abbrev pub IsMigrated : List ℕ → Net → ℕ → ℕ → Option ℕ → Type 0
-IsMigrated old net version journal_pages room = IsCopyIn One old net version journal_pages room None
 
 -- the room that is given is none for the network of the old store
 pub record HasNoSuchRoom (old : List ℕ) (room : Option ℕ) : Type 0 where
@@ -82,3 +77,36 @@ ends_copying other = ends_opening other
 
 abbrev pub MayEndCopying : Refusal → Type 0
 MayEndCopying refusal = IsTrue (ends_copying refusal)
+
+-- A store is made on the new disk, of the one that the old disk has in this format, with this room and so many journal pages; or none is made, and the new
+-- disk is handed back.
+pub record Copies {O D : Type 0} (from : Ghosts O) (to : Ghosts D) (format : Format) (room journal : Option ℕ) (old old' : O) (new : D) (result : Result (StoreState D) (Refusal × D)) : Type 0 where
+  -- The old content stands, in this format, for the network at this version, its room apart. Each content that a stop may leave on the new disk stands,
+  -- tidy, for the network with its room at that version.
+  pub copied : from.honest old → IfOk result (λ store. IsCopyIn format (from.content old) store.network store.version store.journal_pages room journal)
+  pub stands : to.honest new → IfOk result (λ store. IsDurable store (to.content store.disk))
+  -- The file is that of a new store, made on an empty disk: its journal begins with page 0.
+  pub made : to.honest new → IfOk result (λ store. IsNewFile store.journal_pages store.network store.version (to.content store.disk))
+  pub empty : to.honest new → OnOk result (to.content new ≡ [])
+  pub only : to.honest new → IfOk result (λ store. Only (to.content store.disk) (to.left store.disk))
+  pub left : to.honest new → IfOk result (λ store. (c : List ℕ) → to.left store.disk c → IsDurable store c)
+  pub tidy : to.honest new → IfOk result (λ store. IsTidy (to.content store.disk))
+  pub told : to.honest new → IfOk result (λ store. HasTold (to.content store.disk) (told_of_store store))
+  pub checkpoint_pages : IfOk result (λ store. store.checkpoint_pages ≡ checkpoint_pages_of (length store.network.arcs) store.network)
+  pub unchecked : IfOk result (λ store. store.unchecked ≡ 0)
+  pub slot : IfOk result (λ store. (store.slot ≡ A) × (store.epoch ≡ 1))
+  pub works : IfOk result (λ store. store.broken ≡ false)
+  pub none_going : IfOk result (λ store. store.going ≡ None)
+  pub none_in_flight : IfOk result (λ store. store.in_flight ≡ [])
+  pub given : IfOk result (λ store. store.given ≡ store.disk)
+  -- Each refusal depends on one disk: 46 on the new one, which is empty at every other refusal except 43; 40 to 42, 9 and 11 on the old one.
+  pub refused_for_new : to.honest new → IfErr result (λ refused. IsRefusedForNew (to.content new) refused.0)
+  pub refused_for_old : from.honest old → IfErr result (λ refused. IsRefusedForOld format (from.content old) room refused.0)
+  pub causes : IfErr result (λ refused. MayEndCopying refused.0)
+  -- If 43 is reported, one call of one of the disks has failed; otherwise none has.
+  pub counted : CountsCopy from.failures to.failures old old' new result
+  -- The old store is untouched. At each refusal except 43 the new disk is untouched too.
+  pub untouched : from.honest old → StaysSame from.content from.left from.moment from.left_since old old'
+  pub same : to.honest new → IfErr result (λ refused. refused.0 ≢ Device → StaysSame to.content to.left to.moment to.left_since new refused.1)
+  pub honest : from.honest old' ↔ from.honest old
+  pub honest_new : (IfOk result (λ store. to.honest store.disk ↔ to.honest new)) × (IfErr result (λ refused. to.honest refused.1 ↔ to.honest new))

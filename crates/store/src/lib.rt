@@ -14,7 +14,6 @@ mod going;
 mod header;
 mod in_flight;
 mod making;
-mod migration;
 mod opening;
 mod paged;
 mod parts;
@@ -23,9 +22,8 @@ mod rooms;
 mod standing;
 mod store;
 
-pub use copying::copy;
+pub use copying::{copy, migrate};
 pub use making::{create, create_at, open};
-pub use migration::migrate;
 pub use parts::Part;
 pub use rooms::with_given_room;
 pub use standing::{Inspected, Standing, inspect};

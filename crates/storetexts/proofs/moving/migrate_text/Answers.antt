@@ -7,11 +7,11 @@ use Rattle.storetexts.proofs.moving.migrate_text.Goals as goal
 pub returns-clause-made : goal.returns-clause-made
 returns-clause-made g c old_honest new_honest =
     all_moved c.migrate-made.result c.tell_made.result.0 c.tell_made.result.1 g.D.Disk.content g.D.Disk.left One (g.O.Disk.content c.args.old.now) c.args.room None
-    (c.migrate-made.ensures.migrated old_honest) c.migrate-made.ensures.checkpoint_pages (c.migrate-made.ensures.stands new_honest) (c.migrate-made.ensures.only new_honest) (c.migrate-made.ensures.made new_honest) c.migrate-made.ensures.causes c.tell_made.ensures.disk c.tell_made.ensures.refused
+    (c.migrate-made.ensures.copied old_honest) c.migrate-made.ensures.checkpoint_pages (c.migrate-made.ensures.stands new_honest) (c.migrate-made.ensures.only new_honest) (c.migrate-made.ensures.made new_honest) c.migrate-made.ensures.causes c.tell_made.ensures.disk c.tell_made.ensures.refused
 
 pub returns-clause-told : goal.returns-clause-told
 returns-clause-told g c =
-    all_told c.migrate-made.result c.tell_made.result.0 (g.O.Disk.honest c.args.old.now) One (g.O.Disk.content c.args.old.now) c.args.room None _ _ c.migrate-made.ensures.migrated c.tell_made.ensures.told c.tell_made.ensures.refused
+    all_told c.migrate-made.result c.tell_made.result.0 (g.O.Disk.honest c.args.old.now) One (g.O.Disk.content c.args.old.now) c.args.room None _ _ c.migrate-made.ensures.copied c.tell_made.ensures.told c.tell_made.ensures.refused
 
 pub returns-clause-refused_for_new : goal.returns-clause-refused_for_new
 returns-clause-refused_for_new g c new_honest =
@@ -21,7 +21,7 @@ returns-clause-refused_for_new g c new_honest =
 pub returns-clause-refused_for_old : goal.returns-clause-refused_for_old
 returns-clause-refused_for_old g c old_honest =
     all_for_old c.migrate-made.result c.tell_made.result.0 One (g.O.Disk.content c.args.old.now) c.args.room None
-    (c.migrate-made.ensures.migrated old_honest) (c.migrate-made.ensures.refused_for_old old_honest) c.migrate-made.ensures.causes c.tell_made.ensures.failed c.tell_made.ensures.refused
+    (c.migrate-made.ensures.copied old_honest) (c.migrate-made.ensures.refused_for_old old_honest) c.migrate-made.ensures.causes c.tell_made.ensures.failed c.tell_made.ensures.refused
 
 pub returns-clause-codes : goal.returns-clause-codes
 returns-clause-codes g c = all_of_move c.migrate-made.result c.tell_made.result.0 c.migrate-made.ensures.causes c.tell_made.ensures.failed c.tell_made.ensures.refused

@@ -1,4 +1,4 @@
-ghost use Rattle.std.specs.Prelude.{◌≡◌, ◌≤◌, ◌+◌, ◌*◌, ◌↔◌, false, ℕ, List, Ok, Some, length, IfOk, IfErr, OnOk, MatchResult};
+ghost use Rattle.std.specs.Prelude.{◌≡◌, ◌↔◌, false, ℕ, List, Ok, Some, IfOk, IfErr, OnOk, MatchResult};
 ghost use Rattle.roadnet.specs.declared.refusals.Refusal.TheVariants.{OutOfMemory as out_of_memory, Device as device};
 ghost use Rattle.disk.specs.Contents.{Only, Rose};
 ghost use Rattle.disk.specs.Moments.{StaysSame};
@@ -10,7 +10,7 @@ ghost use Rattle.pagereader.specs.Outcomes.{MayRefuse, MayEndOpening};
 ghost use Rattle.pagereader.specs.Reading.{HasFileOf, ReadsToOpen};
 ghost use Rattle.checkpoint.specs.Loading.{head_of};
 ghost use Rattle.store.specs.Durable.{told_by, going_of};
-ghost use Rattle.store.specs.Opening.{header_from, standing_by, HeaderFits, HeaderFitsIn, current_from, current_of, journal_behind, IsFoundBehind, HasJournalOf, IsPassing, MayRefuseToOpen, IsStoreFile};
+ghost use Rattle.store.specs.Opening.{standing_by, HeaderFits, HeaderFitsIn, current_from, current_of, journal_behind, IsFoundBehind, HasJournalOf, IsPassing, MayRefuseToOpen, IsStoreFile};
 ghost use Rattle.store.specs.State.{IsCountedBy};
 
 use crate::found::Found;
@@ -92,36 +92,6 @@ fn read_journal<D: Disk>(
     })
 }
 
-// The slot and the journal of a file with this header.
-fn read_slot_and_journal<D: Disk>(
-    alloc: Global,
-    disk: &mut D,
-    header: &Header,
-) -> Result<Found, Refusal>
-    requires file { HasFileOf D.Disk header.now disk.old }
-    requires spelled { D.honest disk.old → header_from header.now.format (length (D.content disk.old)) (page (D.content disk.old) 0) ≡ Ok header.now }
-    ensures standing { D.honest disk.old → IfOk result (λ found. standing_in (opened_in header.now.format (D.content disk.old)) ≡ Some (standing_by found)) }
-    ensures header { IfOk result (λ found. found.header ≡ header.now) }
-    ensures refused { D.honest disk.old → IfErr result (λ refusal. MayRefuse (opened_in header.now.format (D.content disk.old)) refusal) }
-    ensures reads { ReadsToOpen D.Disk result disk.old disk.new }
-{
-    let (slot, checkpoint) = read_current(alloc, disk, header)?;
-    read_journal(alloc, disk, header, slot, checkpoint)
-}
-
-// The fields of the store in a file of this format that is synced.
-fn read_synced<D: Disk>(alloc: Global, disk: &mut D, format: Format) -> Result<Found, Refusal>
-    ensures standing { D.honest disk.old → IfOk result (λ found. standing_in (opened_in format (D.content disk.old)) ≡ Some (standing_by found)) }
-    ensures format { IfOk result (λ found. found.header.format ≡ format) }
-    ensures refused { D.honest disk.old → IfErr result (λ refusal. MayRefuse (opened_in format (D.content disk.old)) refusal) }
-    ensures order { D.honest disk.old → IfErr result (λ refusal. refusal ≡ out_of_memory → HeaderFitsIn format (D.content disk.old)) }
-    ensures fits { D.honest disk.old → IfOk result (λ found. HeaderFitsIn format (D.content disk.old)) }
-    ensures reads { ReadsToOpen D.Disk result disk.old disk.new }
-{
-    let header = read_header(disk, format)?;
-    read_slot_and_journal(alloc, disk, &header)
-}
-
 /// Syncs, and then judges and reads the whole file of this format, in its order. It writes nothing. The first refusal ends it: the file is not a store
 /// (40), it has another format (41), or a page is damaged (42). At each step the disk may fail (43). After the header there may be no memory (11).
 pub fn find<D: Disk>(alloc: Global, disk: &mut D, format: Format) -> Result<Found, Refusal>
@@ -136,7 +106,9 @@ pub fn find<D: Disk>(alloc: Global, disk: &mut D, format: Format) -> Result<Foun
     let Ok(()) = settle(disk) else {
         return Err(Refusal::Device);
     };
-    read_synced(alloc, disk, format)
+    let header = read_header(disk, format)?;
+    let (slot, checkpoint) = read_current(alloc, disk, &header)?;
+    read_journal(alloc, disk, &header, slot, checkpoint)
 }
 
 /// The pages of the store on a disk, as `open` finds them.

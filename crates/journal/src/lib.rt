@@ -2,7 +2,5 @@
 #![tactic(auto)]
 
 mod append;
-mod ring;
 
 pub use append::append_page;
-pub use ring::Ring;

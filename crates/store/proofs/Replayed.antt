@@ -1,6 +1,6 @@
 -- The journal's pages up to one of them.
 use Rattle.std.proofs.Common.{◌≡◌, ⊎_elim, ℕ, zero, suc, ◌+◌, ◌-◌, ◌<◌, ◌≤◌, Bool, true, false, List, [], ◌∷◌, ◌++◌, length, Option, Some, None, Result, Ok, Err, refl, sym, ap, ◌∙◌, arith}
-use Rattle.std.specs.Prelude.{nat_le, ◌==◌}
+use Rattle.std.specs.Prelude.{nat_le, ◌==◌, ◌&&◌}
 use Rattle.std.specs.List.{flat_map}
 use Rattle.std.proofs.lemmas.List.{append_assoc, append-nil, length-append}
 use Rattle.std.proofs.lemmas.Grind.{flat_map-append}
@@ -13,7 +13,7 @@ use Rattle.roadnet.specs.Step.{after}
 use Rattle.pages.specs.declared.header.Header.{Header}
 use Rattle.pages.specs.declared.content.Format.{Format}
 use Rattle.pages.specs.Contents.{Entry}
-use Rattle.storefile.specs.StoreFile.{joined, is_standing, journal_page_at}
+use Rattle.storefile.specs.StoreFile.{page, joined, is_open, first_field, is_standing, journal_page_at}
 use Rattle.storefile.specs.Judging.{◌>>=◌, unless_so, spelled_at, entry_in, journal_from}
 use Rattle.pages.specs.Limits.{most_versions}
 use Rattle.store.specs.Opening.{entry_from, IsCarriedOut, AreCarriedOut}
@@ -139,6 +139,15 @@ pages_done said pages h from first i version net so_far few longest = record {
 }
 
 -- ---- one page
+
+-- what was read of the page of a sequence, i places on, and whether it stands
+pub page_read : (file now : List ℕ) (h : Header) (from i j number : ℕ) (bytes : List ℕ) → now ≡ file → j ≡ i → number ≡ journal_page_at h (from + j) → bytes ≡ page now number → bytes ≡ page file (journal_page_at h (from + i))
+page_read file now h from i j number bytes same is place read =
+    read ∙ ap (λ (f : List ℕ). page f number) same ∙ ap (page file) (place ∙ ap (λ (n : ℕ). journal_page_at h (from + n)) is)
+
+pub stands_as_read : (pages : ℕ → List ℕ) (h : Header) (from i j : ℕ) (bytes : List ℕ) (answer : Bool) → j ≡ i → bytes ≡ pages (journal_page_at h (from + i)) → answer ≡ (is_open bytes && (first_field bytes == from + j))
+    → is_standing pages h (from + i) ≡ answer
+stands_as_read pages h from i j bytes answer is at told = sym (told ∙ ap (λ (n : ℕ). is_open bytes && (first_field bytes == from + n)) is ∙ ap (λ (b : List ℕ). is_open b && (first_field b == from + i)) at)
 
 rest_of : (f : Format) (k : ℕ) (page : List ℕ) (v : ℕ) (net : Net) (found : Option Entry) → entry_in f page ≡ found
     → entry_from f k page v net ≡ (spelled_at k found >>= λ e. unless_so (e.first_number == v + 1) (Damaged k) >>= λ _. unless_so (nat_le (v + length e.groups) (most_versions)) (Damaged k) >>= λ _. spelled_at k (after net e.groups) >>= carried e.groups)

@@ -1,6 +1,6 @@
 -- The parts of opening a file.
 use Rattle.std.specs.Prelude.{◌≡◌, ◌⊎◌, Some, ℕ, ◌+◌, ◌*◌, nat_le, ◌==◌, List, length, Result, Ok}
-use Rattle.storefile.specs.StoreFile.{page, joined, journal_page_at, StandsFor}
+use Rattle.storefile.specs.StoreFile.{page, joined, StandsFor}
 use Rattle.storefile.specs.Standing.{Standing}
 use Rattle.store.specs.declared.found.Found.{Found}
 use Rattle.roadnet.specs.declared.commands.Command.{Command}
@@ -74,10 +74,6 @@ entry_from format k page v net = do
   next ← spelled_at k (after net e.groups)
   Ok (e.groups, next)
 
--- the same of the page at the place of this sequence
-abbrev pub entry_at : (ℕ → List ℕ) → Header → ℕ → ℕ → Net → Result (List (List Command) × Net) Refusal
-entry_at pages h sequence v net = entry_from h.format (journal_page_at h sequence) (pages (journal_page_at h sequence)) v net
-
 -- the groups of a page, and the network and version after them
 pub record IsCarriedOut (said : Result (List (List Command) × Net) Refusal) (old : ℕ) (net : Net) (new : ℕ) : Type 0 where
   pub groups : List (List Command)
@@ -91,11 +87,7 @@ pub record AreCarriedOut (said : Result (List (List (List Command)) × Net) Refu
   pub count_is : length groups ≡ count
   pub version_is : new ≡ old + length (joined groups)
 
--- the page at the place of this sequence leads from one network, at this version, to another
-abbrev pub ReplaysPage : (ℕ → List ℕ) → Header → ℕ → ℕ → Net → Net → ℕ → Type 0
-ReplaysPage pages h sequence version old net new = IsCarriedOut (entry_at pages h sequence version old) version net new
-
--- so do so many pages from this sequence on, which are the whole journal
+-- so many pages from this sequence on, which are the whole journal, lead from one network, at this version, to another
 abbrev pub ReplaysJournal : (ℕ → List ℕ) → Header → ℕ → ℕ → ℕ → Net → Net → ℕ → Type 0
 ReplaysJournal pages h from count version old net new = AreCarriedOut (journal_of pages h from version old) count version net new
 

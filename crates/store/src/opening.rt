@@ -19,7 +19,6 @@ use crate::paged::Paged;
 use crate::replay::replay;
 use checkpoint::{Checkpoint, choose, load, read_arcs};
 use disk::{Disk, settle};
-use journal::Ring;
 use pagereader::PageReader;
 use pages::{Format, Header, Slot};
 use roadnet::Refusal;
@@ -46,7 +45,7 @@ fn read_current<D: Disk>(
     Ok((slot, checkpoint))
 }
 
-// The journal after a checkpoint: which of its pages are unchecked, and then what they hold.
+// The journal after a checkpoint: its unchecked pages, and what they hold.
 fn read_journal<D: Disk>(
     alloc: Global,
     disk: &mut D,
@@ -67,27 +66,15 @@ fn read_journal<D: Disk>(
         next_sequence,
         network,
     } = checkpoint;
-    let Ok(ring) = Ring::collect(disk, header, next_sequence) else {
-        return Err(Refusal::Device);
-    };
-    let unchecked = ring.unchecked();
     let mut network = network;
-    let version = replay(
-        alloc,
-        disk,
-        header,
-        next_sequence,
-        unchecked,
-        version,
-        &mut network,
-    )?;
+    let (version, unchecked) = replay(alloc, disk, header, next_sequence, version, &mut network)?;
     Ok(Found {
         header: *header,
         slot,
         epoch,
         network,
         version,
-        next_sequence: ring.next_sequence(),
+        next_sequence: next_sequence + u64::from(unchecked),
         unchecked,
     })
 }

@@ -1,15 +1,14 @@
-ghost use Rattle.std.specs.Prelude.{◌≡◌, ◌+◌, ◌*◌, ◌≤◌, ◌↔◌, true, false, None, Some, length, map, IfOk, IfErr, OnOk, OnErr};
+ghost use Rattle.std.specs.Prelude.{◌≡◌, ◌+◌, ◌≤◌, ◌&&◌, ◌==◌, true, false, None, Some, length, map, IfOk, IfErr, OnOk, OnErr};
 ghost use Rattle.roadnet.specs.Step.{refusal_of, step, step_group};
-ghost use Rattle.storefile.specs.StoreFile.{page};
-ghost use Rattle.journal.specs.Places.{IsLongest};
+ghost use Rattle.storefile.specs.StoreFile.{page, is_open, first_field};
 ghost use Rattle.pagereader.specs.Outcomes.{MayLack, MayRefuse};
 ghost use Rattle.pagereader.specs.Reading.{HasFileOf, ReadsToOpen, JudgesToOpen};
-ghost use Rattle.store.specs.Opening.{entry_from, entry_at, journal_of, IsCarriedOut, ReplaysPage, ReplaysJournal};
+ghost use Rattle.store.specs.Opening.{entry_from, journal_of, IsCarriedOut, ReplaysJournal};
 ghost use Rattle.pages.specs.Limits.{most_versions};
 
 use disk::Disk;
 use pagereader::read_page;
-use pages::{Format, Header, MOST_VERSIONS, PAGE_SIZE, Record, decode_journal_page};
+use pages::{Format, Header, MOST_VERSIONS, PAGE_SIZE, Record, decode_journal_page, open_number};
 use roadnet::{Command, Network, OutOfMemory, Refusal};
 use std::alloc::Global;
 
@@ -85,58 +84,51 @@ fn apply_page(
     Ok(new)
 }
 
-// Judges the page of this sequence on the disk, and carries its commands out.
-fn replay_page<D: Disk>(
-    alloc: Global,
-    disk: &mut D,
-    header: &Header,
-    sequence: u64,
-    version: u64,
-    network: &mut Network,
-) -> Result<u64, Refusal>
-    requires file { HasFileOf D.Disk header.now disk.old }
-    requires version { version ≤ most_versions }
-    ensures carried_out { D.honest disk.old → IfOk result (ReplaysPage (page (D.content disk.old)) header.now sequence version network.old network.new) }
-    ensures fits { IfOk result (λ new. new ≤ most_versions) }
-    ensures later { IfOk result (λ new. version + 1 ≤ new) }
-    ensures grows { OnOk result (length network.old.arcs ≤ length network.new.arcs) }
-    ensures refused { D.honest disk.old → IfErr result (MayRefuse (entry_at (page (D.content disk.old)) header.now sequence version network.old)) }
-    ensures reads { ReadsToOpen D.Disk result disk.old disk.new }
+// Whether this is the page of the sequence: it is open, and has it in its first field.
+fn is_of(page: &[u8; PAGE_SIZE], sequence: u64) -> bool
+    ensures { result ≡ (is_open page.now && (first_field page.now == sequence)) }
 {
-    let number = header.journal_page(sequence);
-    let mut page = [0; PAGE_SIZE];
-    let Ok(()) = read_page(disk, number, &mut page) else {
-        return Err(Refusal::Device);
-    };
-    apply_page(alloc, &page, number, header.format, version, network)
+    match open_number(page) {
+        Some(found) => found == sequence,
+        None => false,
+    }
 }
 
-/// Carries out the commands of the unchecked pages, page by page. Returns the version after them: each group counts one. A page is damaged if it is not
-/// valid, if its first number is not the next one, if it passes version 2^48, or if one of its commands is not admitted in its turn; the first such page is
-/// reported. It changes nothing on the disk.
+/// Carries out the commands of the journal from this sequence on, page by page, up to the first page that is not open or not of its sequence; there are at
+/// most as many as the journal has. Returns the version after them, for which each group counts one, and how many pages there are. A page is damaged if it
+/// is not valid, if its first number is not the next one, if it passes version 2^48, or if one of its commands is not admitted in its turn; the first such
+/// page is reported. Each page is read once, and nothing on the disk is changed.
 pub fn replay<D: Disk>(
     alloc: Global,
     disk: &mut D,
     header: &Header,
     from: u64,
-    count: u32,
     version: u64,
     network: &mut Network,
-) -> Result<u64, Refusal>
+) -> Result<(u64, u32), Refusal>
     requires file { HasFileOf D.Disk header.now disk.old }
     requires from { from ≤ most_versions }
     requires version { version ≤ most_versions }
-    requires longest { D.honest disk.old → IsLongest (page (D.content disk.old)) header.now from count }
-    ensures carried_out { D.honest disk.old → IfOk result (ReplaysJournal (page (D.content disk.old)) header.now from count version network.old network.new) }
-    ensures fits { IfOk result (λ new. new ≤ most_versions) }
-    ensures later { IfOk result (λ new. version + count ≤ new) }
+    ensures carried_out { D.honest disk.old → IfOk result (λ x. ReplaysJournal (page (D.content disk.old)) header.now from x.1 version network.old network.new x.0) }
+    ensures fits { IfOk result (λ x. x.0 ≤ most_versions) }
+    ensures later { IfOk result (λ x. version + x.1 ≤ x.0) }
+    ensures few { IfOk result (λ x. x.1 ≤ header.now.journal_pages) }
     ensures grows { OnOk result (length network.old.arcs ≤ length network.new.arcs) }
     ensures refused { D.honest disk.old → IfErr result (MayRefuse (journal_of (page (D.content disk.old)) header.now from version network.old)) }
     ensures reads { ReadsToOpen D.Disk result disk.old disk.new }
 {
+    let mut page = [0; PAGE_SIZE];
     let mut reached = version;
-    for i in 0..count {
-        reached = replay_page(alloc, disk, header, from + u64::from(i), reached, network)?;
+    for i in 0..header.journal_pages {
+        let sequence = from + u64::from(i);
+        let number = header.journal_page(sequence);
+        let Ok(()) = read_page(disk, number, &mut page) else {
+            return Err(Refusal::Device);
+        };
+        if !is_of(&page, sequence) {
+            return Ok((reached, i));
+        }
+        reached = apply_page(alloc, &page, number, header.format, reached, network)?;
     }
-    Ok(reached)
+    Ok((reached, header.journal_pages))
 }

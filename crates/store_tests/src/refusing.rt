@@ -135,14 +135,14 @@ fn in_the_end(
 }
 
 // How many calls of the disk an opening and the work make, and what stands in the end: the version, the length of arc 1, the unchecked pages.
-// Opening makes nine calls, one more where there are ends, and two more for a page that is unchecked. The commit reads the gate, closes it, syncs, writes the body, syncs, opens
+// Opening makes nine calls, one more where there are ends, and one more for a page that is unchecked. The commit reads the gate, closes it, syncs, writes the body, syncs, opens
 // the gate and syncs; the checkpoint does so with the words and the head. The first part reads the gate, which is closed, writes words and syncs;
 // the second writes and syncs; the third writes words and the head, syncs, opens the gate and syncs.
 const ROWS: [(Work, u64, (u64, u32, u32)); 4] = [
     (Work::Commit, 16, (3, 9, 1)),
-    (Work::Checkpoint, 20, (3, 3, 0)),
-    (Work::Parts(0), 21, (1, 5, 0)),
-    (Work::Parts(1), 22, (1, 5, 0)),
+    (Work::Checkpoint, 19, (3, 3, 0)),
+    (Work::Parts(0), 20, (1, 5, 0)),
+    (Work::Parts(1), 21, (1, 5, 0)),
 ];
 
 #[test]

@@ -3,7 +3,6 @@ pub mod Afterwards
 pub mod Appended
 pub mod Applied
 pub mod ArcsKept
-pub mod Calm
 pub mod Checkpointed
 pub mod Committed
 pub mod GoingOn

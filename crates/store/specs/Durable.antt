@@ -1,5 +1,5 @@
 -- What a stop between two calls of a store may leave.
-use Rattle.std.specs.Prelude.{◌≡◌, ◌≤◌, not, Bool, false, ◌&&◌, ◌==◌, is_none, unwrap_or, Option, Some}
+use Rattle.std.specs.Prelude.{◌≡◌, ◌≤◌, Bool, false, ◌&&◌, ◌==◌, is_none, unwrap_or, Option, Some}
 use Rattle.disk.specs.declared.disk.Disk.{Ghosts}
 use Rattle.pages.specs.Layout.{slot_pages}
 use Rattle.storefile.specs.Standing.{Standing, standing_of}
@@ -13,10 +13,6 @@ told_by store = record { header = store.header; slot = store.slot; epoch = store
 -- the checkpoint that is going
 abbrev pub going_of : {D : Type 0} {disk : Ghosts D} → Paged D disk → Option Progress
 going_of store = progress_of store.header store.going
-
--- it is neither broken nor has a checkpoint going
-abbrev pub is_calm : {D : Type 0} {disk : Ghosts D} → Paged D disk → Bool
-is_calm store = not store.broken && is_none (going_of store)
 
 -- the checkpoint that would begin now
 abbrev pub begun_by : {D : Type 0} {disk : Ghosts D} → Paged D disk → Progress

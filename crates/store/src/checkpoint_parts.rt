@@ -3,7 +3,7 @@ ghost use Rattle.std.specs.Prelude.{◌≡◌, ◌≢◌, ◌≤◌, ◌↔◌, 
 ghost use Rattle.disk.specs.Contents.{Only};
 ghost use Rattle.roadnet.specs.declared.refusals.Refusal.TheVariants.{Device as device};
 ghost use Rattle.store.specs.Checkpointing.{MayRefuseCheckpoint};
-ghost use Rattle.store.specs.Durable.{told_by, going_of, begun_by, parts_of, has_all_checked, is_calm};
+ghost use Rattle.store.specs.Durable.{told_by, going_of, begun_by, parts_of, has_all_checked};
 ghost use Rattle.store.specs.Going.{part_by, progress_by, unchecked_by, slot_by, epoch_by};
 ghost use Rattle.store.specs.PagedCalls.{KeepsDurable, TellsFailures, RefusesCheckpoint, KeepsStanding, KeepsAsTold, LeavesFor, StaysFor};
 
@@ -15,13 +15,6 @@ use disk::Disk;
 use roadnet::Refusal;
 
 impl<D: Disk> Paged<D> {
-    // Whether the store is not broken and no checkpoint is going.
-    pub fn calm(&self) -> bool
-        ensures { result ≡ is_calm self.now }
-    {
-        !self.broken && self.going.is_none()
-    }
-
     // Begins a checkpoint: freezes the network, and closes the gate of the slot that is not current.
     pub(crate) fn begin_checkpoint(&mut self) -> Result<(), Refusal>
         requires works { self.old.broken ≡ false }

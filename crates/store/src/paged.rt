@@ -1,3 +1,4 @@
+// The pages of a store. They are apart from `Store`: what holds of them speaks of headers and sequences, which no contract of a store names.
 ghost use Rattle.std.specs.Prelude.{◌≡◌, ◌≤◌, false, length, IfSome};
 ghost use Rattle.std.proofs.Props.{props};
 ghost use Rattle.pages.specs.declared.content.Format.TheVariants.{Two as two};
@@ -36,18 +37,4 @@ pub struct Paged<D: Disk> {
     ghost rests: { broken ≡ false → D.honest disk → IsAtRest (D.content disk) (D.left disk) header },
     ghost fits: { IfSome going (λ g. FitsStore header slot epoch version next_sequence unchecked g.next g.committed) } by { Prim.hlevel props },
     ghost goes_on: { broken ≡ false → D.honest disk → ∥ IfSome going (λ g. GoesOn (D.content disk) header g.next g.frozen g.committed network version next_sequence) ∥₁ },
-}
-
-impl<D: Disk> Paged<D> {
-    pub fn network(&self) -> &Network
-        ensures { result.now ≡ self.now.network }
-    {
-        &self.network
-    }
-
-    pub fn close(self) -> D
-        ensures { result ≡ self.disk }
-    {
-        self.disk
-    }
 }

@@ -1,4 +1,4 @@
-// A store, as its callers see it.
+// A store as its callers see it: its pages, and which groups a stop may add to them. It is apart from `Paged`, so that a caller sees numbers and no page.
 ghost use Rattle.std.specs.Prelude.{◌≡◌, ◌≢◌, ◌+◌, ◌≤◌, ◌↔◌, true, false, List, [], ℕ, None, Some, Ok, length, IfOk, OnOk, OnErr, IfErr, MatchResult, option_map};
 ghost use Rattle.disk.specs.Contents.{Only, Rose};
 ghost use Rattle.disk.specs.Moments.{LeavesOnly, AddsNothing};
@@ -61,7 +61,7 @@ impl<D: Disk> Store<D> {
     pub fn network(&self) -> &Network
         ensures { result.now ≡ self.now.network }
     {
-        self.pages.network()
+        &self.pages.network
     }
 
     /// The version of the durable network: how many groups were ever made durable. If the store came tidy, on a disk that keeps the disk model, and is not
@@ -104,7 +104,7 @@ impl<D: Disk> Store<D> {
     pub fn calm(&self) -> bool
         ensures { result ≡ is_calm self.now }
     {
-        self.pages.calm()
+        !self.pages.broken && self.pages.going.is_none()
     }
 
     /// The disk. No call of it is made. If the store came tidy, on a disk that keeps the disk model, and is not broken, a stop may leave only its content,
@@ -117,7 +117,7 @@ impl<D: Disk> Store<D> {
         ensures stands { CameTidy D.honest D.content self.given → self.broken ≡ false → IsDurable self (D.content result) }
         ensures left { CameTidy D.honest D.content self.given → (c : List ℕ) → D.left result c → IsDurableOrAfter self self.in_flight c }
     {
-        self.pages.close()
+        self.pages.disk
     }
 
     /// Makes these groups, of 1 to 253 commands in all, durable as one page of the journal, and carries them out. Returns the new version: each group

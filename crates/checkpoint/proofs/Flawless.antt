@@ -8,6 +8,7 @@ use Rattle.roadnet.specs.declared.arcs.RoadArc.{RoadArc}
 use Rattle.roadnet.specs.declared.refusals.Refusal.{Refusal}
 use Rattle.roadnet.specs.declared.refusals.Refusal.TheVariants.{TooManyLandmarks, OutOfMemory}
 use Rattle.roadnet.specs.Members.{set_of}
+use Rattle.roadnet.specs.Net.{Net}
 use Rattle.roadnet.specs.Made.{is_node_among, is_node_count, is_long, is_stray, has_long_arc, has_stray_end, has_stray_landmark, flaw_of, MayRefuseParts}
 use Rattle.roadnet.proofs.Flaws.{flaw-none, neither}
 use Rattle.pages.specs.declared.header.Header.{Header}
@@ -18,7 +19,7 @@ use Rattle.pages.specs.Layout.{Words, EndsOf, page_number, places_in_use, word_p
 use Rattle.storefile.specs.Judging.{spelled_at, arcs_in, words_in}
 use Rattle.storefile.proofs.Sound.{arcs_spelled, words_spelled}
 use Rattle.storefile.proofs.Opening.{both_ends}
-use Rattle.checkpoint.specs.Loading.{EndsArePut, WordsArePut, ends_told, words_of_page, laid_of_page}
+use Rattle.checkpoint.specs.Loading.{EndsArePut, WordsArePut, ends_told, words_of_page, laid_of_page, net_of}
 use Rattle.checkpoint.proofs.Ascending.{set_of_ascending}
 
 -- ---- what a page spells is fit
@@ -115,11 +116,22 @@ no_flaw h arcs head fits is count ends words =
 is_not_some : (refusal : Refusal) → ¬ (None ≡ Some refusal)
 is_not_some refusal e = absurd cc
 
--- Of such parts a network is refused for want of memory alone.
-pub for_memory : (h : Header) (arcs : List RoadArc) (head : Head) (refusal : Refusal) → IsHeader h → IsHead h head → length arcs ≡ head.arcs → AllByRecursion (IsEnds h.nodes) (map ends_of arcs) → AllByRecursion IsWord (map word_of arcs)
+want_of_memory : (h : Header) (arcs : List RoadArc) (head : Head) (refusal : Refusal) → IsHeader h → IsHead h head → length arcs ≡ head.arcs → AllByRecursion (IsEnds h.nodes) (map ends_of arcs) → AllByRecursion IsWord (map word_of arcs)
     → MayRefuseParts h.nodes arcs head.landmarks refusal → refusal ≡ OutOfMemory
-for_memory h arcs head refusal fits is count ends words may =
+want_of_memory h arcs head refusal fits is count ends words may =
     ⊎_elim
     (λ (flaw : flaw_of h.nodes arcs head.landmarks ≡ Some refusal). absurd (is_not_some refusal (sym (no_flaw h arcs head fits is count ends words) ∙ flaw)))
     (λ (memory : (refusal ≡ OutOfMemory) × (0 < length head.landmarks) × ((flaw_of h.nodes arcs head.landmarks ≡ None) ⊎ (flaw_of h.nodes arcs head.landmarks ≡ Some TooManyLandmarks))). memory.0)
     may
+
+-- The network that is made of them has room for its own arcs.
+pub as_parts : (h : Header) (arcs : List RoadArc) (head : Head) (net : Net) (landmarks : List ℕ) → IsHead h head → landmarks ≡ head.landmarks
+    → net ≡ record { nodes = h.nodes; arcs = arcs; landmarks = set_of landmarks; room = length arcs } → net ≡ net_of h arcs head (length arcs)
+as_parts h arcs head net landmarks is same made =
+    made ∙ ap (λ (xs : List ℕ). record { nodes = h.nodes; arcs = arcs; landmarks = xs; room = length arcs }) (ap set_of same ∙ set_of_ascending head.landmarks is.ascending)
+
+-- Of such parts a network is refused for want of memory alone.
+pub for_memory : (h : Header) (arcs : List RoadArc) (head : Head) (landmarks : List ℕ) (refusal : Refusal) → IsHeader h → IsHead h head → length arcs ≡ head.arcs → AllByRecursion (IsEnds h.nodes) (map ends_of arcs)
+    → AllByRecursion IsWord (map word_of arcs) → landmarks ≡ head.landmarks → MayRefuseParts h.nodes arcs landmarks refusal → refusal ≡ OutOfMemory
+for_memory h arcs head landmarks refusal fits is count ends words same may =
+    want_of_memory h arcs head refusal fits is count ends words (subst (λ (xs : List ℕ). MayRefuseParts h.nodes arcs xs refusal) same may)

@@ -16,10 +16,10 @@ use Rattle.storefile.specs.Judging.{◌>>=◌, words_from, laid_from, network_fr
 use Rattle.storefile.proofs.Opening.{arcs_joined, both_ends}
 use Rattle.checkpoint.specs.Loading.{head_from, loaded_from, parts_from}
 
-pub loaded_is : (pages : ℕ → List ℕ) (h : Header) (slot : Slot) (ends : List Ends) (head said : Head) (arcs : List RoadArc) (net : Net) → head_from pages h slot ≡ Ok head → words_from pages h slot head.arcs ≡ Ok (map word_of arcs)
-    → laid_from pages h slot head.arcs ≡ Ok (map ends_of (drop h.arcs arcs)) → map ends_of (take h.arcs arcs) ≡ ends → net ≡ record { nodes = h.nodes; arcs = arcs; landmarks = head.landmarks; room = h.room } → said ≡ head
-    → loaded_from pages h slot ends ≡ Ok (said, net)
-loaded_is pages h slot ends head said arcs net head_is words_are laid_are ends_are net_is same =
+pub loaded_is : (pages : ℕ → List ℕ) (h : Header) (slot : Slot) (ends : List Ends) (head : Head) (arcs : List RoadArc) (net : Net) → head_from pages h slot ≡ Ok head → words_from pages h slot head.arcs ≡ Ok (map word_of arcs)
+    → laid_from pages h slot head.arcs ≡ Ok (map ends_of (drop h.arcs arcs)) → map ends_of (take h.arcs arcs) ≡ ends → net ≡ record { nodes = h.nodes; arcs = arcs; landmarks = head.landmarks; room = h.room }
+    → loaded_from pages h slot ends ≡ Ok (head, net)
+loaded_is pages h slot ends head arcs net head_is words_are laid_are ends_are net_is =
     let joined : map arc_from (zip (ends ++ map ends_of (drop h.arcs arcs)) (map word_of arcs)) ≡ arcs =
     ap (λ (es : List Ends). map arc_from (zip (es ++ map ends_of (drop h.arcs arcs)) (map word_of arcs))) (sym ends_are)
     ∙ ap (λ (es : List Ends). map arc_from (zip es (map word_of arcs))) (both_ends h.arcs arcs) ∙ arcs_joined arcs in
@@ -28,7 +28,6 @@ loaded_is pages h slot ends head said arcs net head_is words_are laid_are ends_a
     ∙ ap (λ (r : Result (List Ends) Refusal). r >>= λ l. Ok (head, network_from h (ends ++ l) (map word_of arcs) head)) laid_are
     ∙ ap (λ (xs : List RoadArc). Ok (head, record { nodes = h.nodes; arcs = xs; landmarks = head.landmarks; room = h.room })) joined
     ∙ ap (λ (n : Net). Ok (head, n)) (sym net_is)
-    ∙ ap (λ (d : Head). Ok (d, net)) (sym same)
 
 -- Arcs of the same ends have the same first ones.
 pub same_first : (n : ℕ) (xs ys : List RoadArc) → map ends_of xs ≡ map ends_of ys → map ends_of (take n xs) ≡ map ends_of (take n ys)

@@ -13,7 +13,6 @@ use Rattle.pages.specs.Spelling.{ends_of, word_of}
 use Rattle.pages.specs.Gates.{open_number}
 use Rattle.pages.specs.Layout.{Arcs, HeadOf, Words, EndsOf, page_number, places_in_use}
 use Rattle.storefile.specs.Judging.{◌>>=◌, spelled_at, arcs_in, words_in, head_in, current_slot, words_from, laid_from, network_from}
-use Rattle.checkpoint.specs.declared.slots.Checkpoint.{Checkpoint}
 
 -- the head of a slot
 abbrev pub head_from : (ℕ → List ℕ) → Header → Slot → Result Head Refusal
@@ -34,9 +33,6 @@ parts_from pages h slot arcs = do
   laid ← laid_from pages h slot arcs
   Ok (words, laid)
 
-abbrev pub head_of : Checkpoint → Head
-head_of c = record { epoch = c.epoch; version = c.version; next_sequence = c.next_sequence; arcs = length c.network.arcs; landmarks = c.network.landmarks }
-
 -- the slot has this number at the front of its head, where its gate is open
 abbrev pub HasFront : (ℕ → List ℕ) → Header → Slot → Option ℕ → Type 0
 HasFront pages h slot n = open_number (pages (page_number h (HeadOf slot))) ≡ n
@@ -44,10 +40,6 @@ HasFront pages h slot n = open_number (pages (page_number h (HeadOf slot))) ≡ 
 -- the current slot of each file whose slots have these numbers there
 abbrev pub IsCurrentBy : Header → Option ℕ → Option ℕ → Result Slot Refusal → Type 0
 IsCurrentBy h a b slot = (pages : ℕ → List ℕ) → HasFront pages h A a → HasFront pages h B b → current_slot pages h ≡ slot
-
--- what the slot holds, whose arcs have these ends at first
-abbrev pub IsLoaded : (ℕ → List ℕ) → Header → Slot → List RoadArc → Checkpoint → Type 0
-IsLoaded pages h slot arcs c = loaded_from pages h slot (map ends_of arcs) ≡ Ok (head_of c, c.network)
 
 -- the arcs that the arc pages do not have got the ends that the slot's end pages say
 abbrev pub HasLaid : (ℕ → List ℕ) → Header → Slot → List RoadArc → List RoadArc → Type 0

@@ -12,5 +12,5 @@ mod writing;
 pub use arcs::read_arcs;
 pub use heads::choose;
 pub use slot_pages::part_of;
-pub use slots::{Checkpoint, load};
+pub use slots::load;
 pub use writing::NextCheckpoint;

@@ -8,7 +8,7 @@ ghost use Rattle.pagereader.specs.Outcomes.{MayRefuse};
 ghost use Rattle.pagereader.specs.Reading.{HasFileOf, ReadsToOpen};
 ghost use Rattle.roadnet.specs.Net.{IsRoomFor};
 ghost use Rattle.storefile.specs.Judging.{words_from};
-ghost use Rattle.checkpoint.specs.Loading.{head_of, loaded_from, parts_from, IsLoaded, HasLaid, net_of};
+ghost use Rattle.checkpoint.specs.Loading.{loaded_from, parts_from, HasLaid, net_of};
 
 use crate::heads::read_head;
 use crate::laid::read_laid;
@@ -19,17 +19,8 @@ use pages::{Header, Slot, SlotHead};
 use roadnet::{Network, Refusal, RoadArc};
 use std::alloc::{AllocError, Global};
 
-/// What a slot holds: its epoch, the version of its network, the sequence of the journal page that follows, and the network.
-#[derive(Debug, Drop)]
-pub struct Checkpoint {
-    pub epoch: u64,
-    pub version: u64,
-    pub next_sequence: u64,
-    pub network: Network,
-}
-
-/// Reads a slot: its head, and then the words of the arcs, whose ends are known. The first page that is not valid is reported as damaged. It changes
-/// nothing.
+/// Reads a slot: its head, and then its network, by the words of the arcs, whose ends are known, and the ends of those that were laid. The first page that
+/// is not valid is reported as damaged. It changes nothing.
 pub fn load<D: Disk>(
     alloc: Global,
     disk: &mut D,
@@ -37,13 +28,14 @@ pub fn load<D: Disk>(
     slot: Slot,
     reader: &mut PageReader,
     arcs: Vec<RoadArc>,
-) -> Result<Checkpoint, Refusal>
+) -> Result<(SlotHead, Network), Refusal>
     requires file { HasFileOf D.Disk header.now disk.old }
     requires run { D.honest disk.old → IsRunOf (D.content disk.old) reader.old }
     requires count { length arcs.items ≡ header.now.arcs }
     requires ends { AllByRecursion (IsEnds header.now.nodes) (map ends_of arcs.items) }
-    ensures loaded { D.honest disk.old → IfOk result (IsLoaded (page (D.content disk.old)) header.now slot arcs.items) }
-    ensures fits { IfOk result (λ c. IsHead header.now (head_of c)) }
+    ensures loaded { D.honest disk.old → IfOk result (λ x. loaded_from (page (D.content disk.old)) header.now slot (map ends_of arcs.items) ≡ Ok x) }
+    ensures fits { IfOk result (λ x. IsHead header.now x.0) }
+    ensures count { IfOk result (λ x. length x.1.arcs ≡ x.0.arcs) }
     ensures refused { D.honest disk.old → IfErr result (MayRefuse (loaded_from (page (D.content disk.old)) header.now slot (map ends_of arcs.items))) }
     ensures reads { ReadsToOpen D.Disk result disk.old disk.new }
 {
@@ -54,12 +46,7 @@ pub fn load<D: Disk>(
     };
     read_parts(alloc, disk, header, slot, reader, &mut arcs)?;
     let network = network_of(alloc, header, arcs, &head)?;
-    Ok(Checkpoint {
-        epoch: head.epoch(),
-        version: head.version(),
-        next_sequence: head.next_sequence(),
-        network,
-    })
+    Ok((head, network))
 }
 
 // Gives the arcs of a store the words from a slot, and those after the first ones their ends. The first page that is not valid is reported as damaged. It
@@ -105,26 +92,8 @@ fn network_of(
     ensures network { IfOk result (λ net. net ≡ net_of header.now arcs.items head.now header.now.room) }
     ensures refused { IfErr result (λ refusal. refusal ≡ out_of_memory) }
 {
-    let network = made_of(alloc, header, arcs, head)?;
+    let network = Network::new(alloc, header.nodes, arcs, head.landmarks())?;
     Ok(with_room(network, header.room))
-}
-
-// The same, without room for more arcs.
-fn made_of(
-    alloc: Global,
-    header: &Header,
-    arcs: Vec<RoadArc>,
-    head: &SlotHead,
-) -> Result<Network, Refusal>
-    requires header { IsHeader header.now }
-    requires head { IsHead header.now head.now }
-    requires count { length arcs.items ≡ head.now.arcs }
-    requires ends { AllByRecursion (IsEnds header.now.nodes) (map ends_of arcs.items) }
-    requires words { AllByRecursion IsWord (map word_of arcs.items) }
-    ensures network { IfOk result (λ net. net ≡ net_of header.now arcs.items head.now (length arcs.items)) }
-    ensures refused { IfErr result (λ refusal. refusal ≡ out_of_memory) }
-{
-    Network::new(alloc, header.nodes, arcs, head.landmarks())
 }
 
 // The network with this room, which is large enough for its arcs.

@@ -13,8 +13,7 @@ use Rattle.pages.specs.declared.content.Slot.{Slot}
 use Rattle.pages.specs.Contents.{Head}
 use Rattle.pages.specs.Layout.{page_count}
 use Rattle.storefile.specs.Judging.{◌>>=◌, unless_so, spelled_at, begins_as_store, format_of, header_in, entry_in, ends_from, current_slot, journal_from, judged_in}
-use Rattle.checkpoint.specs.declared.slots.Checkpoint.{Checkpoint}
-use Rattle.checkpoint.specs.Loading.{head_of, loaded_from}
+use Rattle.checkpoint.specs.Loading.{loaded_from}
 use Rattle.pages.specs.Limits.{page_size, most_versions}
 use Rattle.pages.specs.declared.content.Format.{Format}
 use Rattle.pages.specs.declared.content.Format.TheVariants.{Two}
@@ -54,16 +53,16 @@ current_from pages h = do
   loaded ← loaded_from pages h slot ends
   Ok (record { slot = slot; head = loaded.0; network = loaded.1 })
 
-abbrev pub current_of : (Slot × Checkpoint) → Current
-current_of x = record { slot = x.0; head = head_of x.1; network = x.1.network }
+abbrev pub current_of : (Slot × Head × Net) → Current
+current_of x = record { slot = x.0; head = x.1; network = x.2 }
 
 -- the groups of the journal from this sequence on, page by page, and the network after them; that before is net, at version v
 abbrev pub journal_of : (ℕ → List ℕ) → Header → ℕ → ℕ → Net → Result (List (List (List Command)) × Net) Refusal
 journal_of pages h from v net = journal_from pages h h.journal_pages from v net
 
--- those behind a checkpoint
-abbrev pub journal_behind : (ℕ → List ℕ) → Header → Checkpoint → Result (List (List (List Command)) × Net) Refusal
-journal_behind pages h c = journal_of pages h c.next_sequence c.version c.network
+-- those behind a slot with this head and this network
+abbrev pub journal_behind : (ℕ → List ℕ) → Header → Head → Net → Result (List (List (List Command)) × Net) Refusal
+journal_behind pages h head net = journal_of pages h head.next_sequence head.version net
 
 -- the groups of the journal page of this number, and the network after them; that before is net, at version v
 abbrev pub entry_from : Format → ℕ → List ℕ → ℕ → Net → Result (List (List Command) × Net) Refusal
@@ -91,16 +90,16 @@ pub record AreCarriedOut (said : Result (List (List (List Command)) × Net) Refu
 abbrev pub ReplaysJournal : (ℕ → List ℕ) → Header → ℕ → ℕ → ℕ → Net → Net → ℕ → Type 0
 ReplaysJournal pages h from count version old net new = AreCarriedOut (journal_of pages h from version old) count version net new
 
--- what is found has this header and this slot, and the numbers that follow from the slot's checkpoint
-pub record IsFoundBehind (h : Header) (slot : Slot) (c : Checkpoint) (found : Found) : Type 0 where
+-- what is found has this header and this slot, and the numbers that follow from the slot's head
+pub record IsFoundBehind (h : Header) (slot : Slot) (head : Head) (found : Found) : Type 0 where
   pub header : found.header ≡ h
   pub slot_is : found.slot ≡ slot
-  pub epoch : found.epoch ≡ c.epoch
-  pub next : found.next_sequence ≡ c.next_sequence + found.unchecked
+  pub epoch : found.epoch ≡ head.epoch
+  pub next : found.next_sequence ≡ head.next_sequence + found.unchecked
 
--- it has the network and the version after the journal behind that checkpoint
-abbrev pub HasJournalOf : (ℕ → List ℕ) → Header → Checkpoint → Found → Type 0
-HasJournalOf pages h c found = AreCarriedOut (journal_behind pages h c) found.unchecked c.version found.network found.version
+-- it has the network and the version after the journal behind that slot
+abbrev pub HasJournalOf : (ℕ → List ℕ) → Header → Head → Net → Found → Type 0
+HasJournalOf pages h head net found = AreCarriedOut (journal_behind pages h head net) found.unchecked head.version found.network found.version
 
 -- a refusal that says nothing of the file: no memory was given, or the disk failed
 abbrev pub IsPassing : Refusal → Type 0

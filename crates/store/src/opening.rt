@@ -1,4 +1,4 @@
-ghost use Rattle.std.specs.Prelude.{◌≡◌, ◌↔◌, false, ℕ, List, Ok, Some, IfOk, IfErr, OnOk, MatchResult};
+ghost use Rattle.std.specs.Prelude.{◌≡◌, ◌↔◌, false, ℕ, List, Ok, Some, length, IfOk, IfErr, OnOk, MatchResult};
 ghost use Rattle.roadnet.specs.declared.refusals.Refusal.TheVariants.{OutOfMemory as out_of_memory, Device as device};
 ghost use Rattle.disk.specs.Contents.{Only, Rose};
 ghost use Rattle.disk.specs.Moments.{StaysSame};
@@ -8,7 +8,6 @@ ghost use Rattle.storefile.specs.Judging.{opened_in};
 ghost use Rattle.storefile.specs.Standing.{standing_in, standing_of};
 ghost use Rattle.pagereader.specs.Outcomes.{MayRefuse, MayEndOpening};
 ghost use Rattle.pagereader.specs.Reading.{HasFileOf, ReadsToOpen};
-ghost use Rattle.checkpoint.specs.Loading.{head_of};
 ghost use Rattle.store.specs.Durable.{told_by, going_of};
 ghost use Rattle.store.specs.Opening.{standing_by, HeaderFits, HeaderFitsIn, current_from, current_of, journal_behind, IsFoundBehind, HasJournalOf, IsPassing, MayRefuseToOpen, IsStoreFile};
 ghost use Rattle.store.specs.State.{IsCountedBy};
@@ -17,22 +16,23 @@ use crate::found::Found;
 use crate::header::read_header;
 use crate::paged::Paged;
 use crate::replay::replay;
-use checkpoint::{Checkpoint, choose, load, read_arcs};
+use checkpoint::{choose, load, read_arcs};
 use disk::{Disk, settle};
 use pagereader::PageReader;
-use pages::{Format, Header, Slot};
-use roadnet::Refusal;
+use pages::{Format, Header, Slot, SlotHead};
+use roadnet::{Network, Refusal};
 use std::alloc::Global;
 
-// The current slot and what it holds. The arc pages, the choice of the slot, its head and its word pages are judged in this order.
+// The current slot, its head and its network. The arc pages, the choice of the slot, its head, its word pages and its end pages are judged in this order.
 fn read_current<D: Disk>(
     alloc: Global,
     disk: &mut D,
     header: &Header,
-) -> Result<(Slot, Checkpoint), Refusal>
+) -> Result<(Slot, SlotHead, Network), Refusal>
     requires file { HasFileOf D.Disk header.now disk.old }
     ensures current { D.honest disk.old → IfOk result (λ x. current_from (page (D.content disk.old)) header.now ≡ Ok (current_of x)) }
-    ensures fits { IfOk result (λ x. IsHead header.now (head_of x.1)) }
+    ensures fits { IfOk result (λ x. IsHead header.now x.1) }
+    ensures count { IfOk result (λ x. length x.2.arcs ≡ x.1.arcs) }
     ensures refused { D.honest disk.old → IfErr result (λ refusal. MayRefuse (current_from (page (D.content disk.old)) header.now) refusal) }
     ensures reads { ReadsToOpen D.Disk result disk.old disk.new }
 {
@@ -41,40 +41,37 @@ fn read_current<D: Disk>(
     };
     let arcs = read_arcs(alloc, disk, header, &mut reader)?;
     let slot = choose(disk, header)?;
-    let checkpoint = load(alloc, disk, header, slot, &mut reader, arcs)?;
-    Ok((slot, checkpoint))
+    let (head, network) = load(alloc, disk, header, slot, &mut reader, arcs)?;
+    Ok((slot, head, network))
 }
 
-// The journal after a checkpoint: its unchecked pages, and what they hold.
+// The journal after a slot with this head and this network: its unchecked pages, and what they hold.
 fn read_journal<D: Disk>(
     alloc: Global,
     disk: &mut D,
     header: &Header,
     slot: Slot,
-    checkpoint: Checkpoint,
+    head: &SlotHead,
+    network: Network,
 ) -> Result<Found, Refusal>
     requires file { HasFileOf D.Disk header.now disk.old }
-    requires fits { IsHead header.now (head_of checkpoint) }
-    ensures carried_out { D.honest disk.old → IfOk result (HasJournalOf (page (D.content disk.old)) header.now checkpoint) }
-    ensures found { IfOk result (IsFoundBehind header.now slot checkpoint) }
-    ensures refused { D.honest disk.old → IfErr result (MayRefuse (journal_behind (page (D.content disk.old)) header.now checkpoint)) }
+    requires fits { IsHead header.now head.now }
+    requires count { length network.arcs ≡ head.now.arcs }
+    ensures carried_out { D.honest disk.old → IfOk result (HasJournalOf (page (D.content disk.old)) header.now head.now network) }
+    ensures found { IfOk result (IsFoundBehind header.now slot head.now) }
+    ensures refused { D.honest disk.old → IfErr result (MayRefuse (journal_behind (page (D.content disk.old)) header.now head.now network)) }
     ensures reads { ReadsToOpen D.Disk result disk.old disk.new }
 {
-    let Checkpoint {
-        epoch,
-        version,
-        next_sequence,
-        network,
-    } = checkpoint;
+    let from = head.next_sequence();
     let mut network = network;
-    let (version, unchecked) = replay(alloc, disk, header, next_sequence, version, &mut network)?;
+    let (version, unchecked) = replay(alloc, disk, header, from, head.version(), &mut network)?;
     Ok(Found {
         header: *header,
         slot,
-        epoch,
+        epoch: head.epoch(),
         network,
         version,
-        next_sequence: next_sequence + u64::from(unchecked),
+        next_sequence: from + u64::from(unchecked),
         unchecked,
     })
 }
@@ -94,8 +91,8 @@ pub fn find<D: Disk>(alloc: Global, disk: &mut D, format: Format) -> Result<Foun
         return Err(Refusal::Device);
     };
     let header = read_header(disk, format)?;
-    let (slot, checkpoint) = read_current(alloc, disk, &header)?;
-    read_journal(alloc, disk, &header, slot, checkpoint)
+    let (slot, head, network) = read_current(alloc, disk, &header)?;
+    read_journal(alloc, disk, &header, slot, &head, network)
 }
 
 /// The pages of the store on a disk, as `open` finds them.

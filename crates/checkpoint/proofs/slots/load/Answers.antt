@@ -4,12 +4,11 @@ use Rattle.std.proofs.lemmas.List.{take_at}
 use Rattle.std.proofs.lemmas.Result.{err_from_is_err_and}
 use Rattle.roadnet.specs.declared.arcs.RoadArc.{RoadArc}
 use Rattle.roadnet.specs.Net.{Net}
-use Rattle.pages.specs.Spelling.{IsHead, ends_of, word_of}
-use Rattle.pages.proofs.Heads.{same_head}
+use Rattle.pages.specs.Spelling.{ends_of, word_of}
 use Rattle.storefile.specs.StoreFile.{page}
 use Rattle.storefile.specs.Judging.{words_from, laid_from}
 use Rattle.pagereader.proofs.Outcomes.{may_refuse_whole}
-use Rattle.checkpoint.specs.Loading.{head_of, loaded_from, parts_from}
+use Rattle.checkpoint.specs.Loading.{loaded_from, parts_from}
 use Rattle.checkpoint.proofs.Loaded.{loaded_is, loaded_stop}
 use Rattle.pagereader.proofs.Calls.{reads_then, reads_then_refuses}
 use Rattle.checkpoint.proofs.slots.load.Goals as goal
@@ -70,19 +69,11 @@ returns-clause-loaded g c h =
     c.in_ok-read_parts.ensures.first ∙ ap (λ (xs : List RoadArc). map ends_of (take c.args.header.now.arcs xs)) c.deref_mut.ensures.value
     ∙ ap (λ (n : ℕ). map ends_of (take n c.add_blank.new.arcs.items)) (sym c.requires.count) ∙ ap (map ends_of) c.in-Ok.ensures.first in
     loaded_is (page (g.D.Disk.content c.args.disk.now)) c.args.header.now c.args.slot (map ends_of c.args.arcs.items) c.in_ok-head.head
-    (head_of (record { epoch = c.epoch.result; version = c.version.result; next_sequence = c.next_sequence.result; network = c.in_ok-network.network }))
     c.read_parts.new.arcs c.in_ok-network.network (c.in_ok-head.ensures.spelled h) words laid ends net
-    (same_head _ c.in_ok-head.head c.epoch.ensures c.version.ensures c.next_sequence.ensures
-    (ap (λ (n : Net). length n.arcs) net ∙ c.read_parts.ensures.count ∙ count) (ap (λ (n : Net). n.landmarks) net))
 
-pub returns-clause-fits : goal.returns-clause-fits
-returns-clause-fits g c =
+pub returns-clause-count : goal.returns-clause-count
+returns-clause-count g c =
     let count : length c.deref_mut.result.now ≡ c.in_ok-head.head.arcs = ap length c.deref_mut.ensures.value ∙ c.in-Ok.ensures.count ∙ c.arcs.ensures in
     let back : take c.add_blank.new.arcs.len (c.read_parts.new.arcs ++ drop (length c.read_parts.new.arcs) c.add_blank.new.arcs.items) ≡ c.read_parts.new.arcs =
     take_at c.read_parts.new.arcs (drop (length c.read_parts.new.arcs) c.add_blank.new.arcs.items) c.add_blank.new.arcs.len (omega arith) in
-    let net : c.in_ok-network.network ≡ record { nodes = c.args.header.now.nodes; arcs = c.read_parts.new.arcs; landmarks = c.in_ok-head.head.landmarks; room = c.args.header.now.room } =
-    c.in_ok-network.ensures.network ∙ ap (λ (xs : List RoadArc). record { nodes = c.args.header.now.nodes; arcs = xs; landmarks = c.in_ok-head.head.landmarks; room = c.args.header.now.room }) back in
-    subst (IsHead c.args.header.now)
-    (sym (same_head (head_of (record { epoch = c.epoch.result; version = c.version.result; next_sequence = c.next_sequence.result; network = c.in_ok-network.network })) c.in_ok-head.head
-    c.epoch.ensures c.version.ensures c.next_sequence.ensures (ap (λ (n : Net). length n.arcs) net ∙ c.read_parts.ensures.count ∙ count) (ap (λ (n : Net). n.landmarks) net)))
-    c.in_ok-head.ensures.fits
+    ap (λ (n : Net). length n.arcs) c.in_ok-network.ensures.network ∙ ap length back ∙ c.read_parts.ensures.count ∙ count

@@ -8,7 +8,6 @@ use Rattle.storefile.specs.Standing.{standing_in}
 use Rattle.pagereader.specs.Reading.{ReadsToOpen}
 use Rattle.pagereader.proofs.Calls.{reads_then, reads_then_refuses}
 use Rattle.pagereader.proofs.Outcomes.{may_refuse_whole}
-use Rattle.checkpoint.specs.Loading.{head_of}
 use Rattle.store.specs.Opening.{HeaderFitsIn, header_from, current_from}
 use Rattle.store.proofs.Steps.{no_header, no_current, no_journal, all_known, same_standing, of_found}
 use Rattle.store.proofs.opening.find.Goals as goal
@@ -77,21 +76,22 @@ returns-clause-standing g c h =
     let synced = g.D.Disk.content c.settle.new.disk in
     let header = c.in_ok-header.header in
     let slot = c.in_ok-slot.slot in
-    let checkpoint = c.in_ok-slot.checkpoint in
+    let head = c.in_ok-slot.head in
+    let network = c.in_ok-slot.network in
     let first : g.D.Disk.content c.settle.new.disk ≡ g.D.Disk.content c.args.disk.now = (c.settle.ensures.reads.same h).same_content in
     let second : g.D.Disk.content c.read_header.new.disk ≡ synced = (c.in_ok-header.ensures.reads.same h1).same_content in
     let third : g.D.Disk.content c.read_current.new.disk ≡ synced = (c.in_ok-slot.ensures.reads.same h2).same_content ∙ second in
     of_found c.read_journal.result _ _ _ (c.read_journal.ensures.carried_out h3) c.read_journal.ensures.found
     (λ found out is.
     let told : opened_in c.args.format synced ≡ _ =
-    all_known c.args.format (length synced) (page synced) header (record { slot = slot; head = head_of checkpoint; network = checkpoint.network }) out.groups found.network
+    all_known c.args.format (length synced) (page synced) header (record { slot = slot; head = head; network = network }) out.groups found.network
     (c.in_ok-header.ensures.header h1) (ap (λ (file : List ℕ). current_from (page file) header) (sym second) ∙ c.in_ok-slot.ensures.current h2)
-    (ap (λ (file : List ℕ). journal_from (page file) header header.journal_pages checkpoint.next_sequence checkpoint.version checkpoint.network) (sym third) ∙ out.said_is) in
+    (ap (λ (file : List ℕ). journal_from (page file) header header.journal_pages head.next_sequence head.version network) (sym third) ∙ out.said_is) in
     ap (λ (file : List ℕ). standing_in (opened_in c.args.format file)) (sym first) ∙ ap standing_in told
-    ∙ same_standing header found.header slot found.slot checkpoint.epoch found.epoch found.network
-    (checkpoint.version + length (joined out.groups)) found.version (checkpoint.next_sequence + length out.groups) found.next_sequence (length out.groups) found.unchecked
+    ∙ same_standing header found.header slot found.slot head.epoch found.epoch found.network
+    (head.version + length (joined out.groups)) found.version (head.next_sequence + length out.groups) found.next_sequence (length out.groups) found.unchecked
     (sym is.header) (sym is.slot_is) (sym is.epoch) (sym out.version_is)
-    (ap (λ (n : ℕ). checkpoint.next_sequence + n) out.count_is ∙ sym is.next) out.count_is)
+    (ap (λ (n : ℕ). head.next_sequence + n) out.count_is ∙ sym is.next) out.count_is)
 
 pub returns-clause-format : goal.returns-clause-format
 returns-clause-format g c = IfOk-weaker c.read_journal.result _ _ (λ found is. ap (λ (x : Header). x.format) is.header ∙ c.in_ok-header.ensures.format) c.read_journal.ensures.found
@@ -103,17 +103,18 @@ returns-clause-refused g c h =
     let h3 = c.in_ok-slot.ensures.reads.honest.1 h2 in
     let synced = g.D.Disk.content c.settle.new.disk in
     let header = c.in_ok-header.header in
-    let checkpoint = c.in_ok-slot.checkpoint in
+    let head = c.in_ok-slot.head in
+    let network = c.in_ok-slot.network in
     let first : g.D.Disk.content c.settle.new.disk ≡ g.D.Disk.content c.args.disk.now = (c.settle.ensures.reads.same h).same_content in
     let second : g.D.Disk.content c.read_header.new.disk ≡ synced = (c.in_ok-header.ensures.reads.same h1).same_content in
     let third : g.D.Disk.content c.read_current.new.disk ≡ synced = (c.in_ok-slot.ensures.reads.same h2).same_content ∙ second in
     IfErr-weaker c.read_journal.result _ _
-    (λ refusal may. may_refuse_whole (journal_from (page (g.D.Disk.content c.read_current.new.disk)) header header.journal_pages checkpoint.next_sequence checkpoint.version checkpoint.network)
+    (λ refusal may. may_refuse_whole (journal_from (page (g.D.Disk.content c.read_current.new.disk)) header header.journal_pages head.next_sequence head.version network)
     (opened_in c.args.format (g.D.Disk.content c.args.disk.now)) refusal
     (λ e. ap (λ (file : List ℕ). opened_in c.args.format file) (sym first)
-    ∙ no_journal c.args.format (length synced) (page synced) header (record { slot = c.in_ok-slot.slot; head = head_of checkpoint; network = checkpoint.network }) refusal
+    ∙ no_journal c.args.format (length synced) (page synced) header (record { slot = c.in_ok-slot.slot; head = head; network = network }) refusal
     (c.in_ok-header.ensures.header h1) (ap (λ (file : List ℕ). current_from (page file) header) (sym second) ∙ c.in_ok-slot.ensures.current h2)
-    (ap (λ (file : List ℕ). journal_from (page file) header header.journal_pages checkpoint.next_sequence checkpoint.version checkpoint.network) (sym third) ∙ e))
+    (ap (λ (file : List ℕ). journal_from (page file) header header.journal_pages head.next_sequence head.version network) (sym third) ∙ e))
     may) (c.read_journal.ensures.refused h3)
 
 pub returns-clause-order : goal.returns-clause-order

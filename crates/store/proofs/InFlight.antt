@@ -84,25 +84,25 @@ module _ {D : Type 0} {disk : Ghosts D} where
 
   -- each content that is left stands for what the store says, or for that after these commands
   abbrev pub LeavesWith : Paged D disk → List (List Command) → Type 0
-  LeavesWith pages commands = (c : List ℕ) → disk.left pages.disk c → IsBeforeOrAfter pages.header.journal_pages (slot_pages pages.header) pages.network pages.version commands c
+  LeavesWith pages commands = (c : List ℕ) → disk.left pages.disk c → IsBeforeOrAfter pages.found.header.journal_pages (slot_pages pages.found.header) pages.found.network pages.found.version commands c
 
   pub left_always : (pages : Paged D disk) (commands : List (List Command)) → (pages.broken ≡ false → RestsTidily pages) → (pages.broken ≡ true → LeavesWith pages commands) → LeavesWith pages commands
   left_always pages commands rests broke =
       either_way pages.broken (λ works c was. let held = rests works in inl (left_stands (disk.content pages.disk) (disk.left pages.disk) (told_by pages) held.0 held.1 c was)) broke
 
   -- what stands for what one store says stands for what another says that says the same
-  pub stands_still : (old new : Paged D disk) (commands : List (List Command)) → new.header ≡ old.header → new.network ≡ old.network → new.version ≡ old.version → (c : List ℕ)
-      → IsBeforeOrAfter old.header.journal_pages (slot_pages old.header) old.network old.version commands c → IsBeforeOrAfter new.header.journal_pages (slot_pages new.header) new.network new.version commands c
+  pub stands_still : (old new : Paged D disk) (commands : List (List Command)) → new.found.header ≡ old.found.header → new.found.network ≡ old.found.network → new.found.version ≡ old.found.version → (c : List ℕ)
+      → IsBeforeOrAfter old.found.header.journal_pages (slot_pages old.found.header) old.found.network old.found.version commands c → IsBeforeOrAfter new.found.header.journal_pages (slot_pages new.found.header) new.found.network new.found.version commands c
   stands_still old new commands header network version c way =
-      subst (λ (h : Header). IsBeforeOrAfter h.journal_pages (slot_pages h) new.network new.version commands c) (sym header)
-      (subst (λ (n : Net). IsBeforeOrAfter old.header.journal_pages (slot_pages old.header) n new.version commands c) (sym network)
-      (subst (λ (v : ℕ). IsBeforeOrAfter old.header.journal_pages (slot_pages old.header) old.network v commands c) (sym version) way))
+      subst (λ (h : Header). IsBeforeOrAfter h.journal_pages (slot_pages h) new.found.network new.found.version commands c) (sym header)
+      (subst (λ (n : Net). IsBeforeOrAfter old.found.header.journal_pages (slot_pages old.found.header) n new.found.version commands c) (sym network)
+      (subst (λ (v : ℕ). IsBeforeOrAfter old.found.header.journal_pages (slot_pages old.found.header) old.found.network v commands c) (sym version) way))
 
   -- a checkpoint of a store that then is broken
   pub left_after_checkpoint : {T : Type 0} (result : Result T Refusal) (old new : Paged D disk) (commands : List (List Command))
       → MatchResult result (λ _. refusal_of_checkpoint old.broken ≡ None) (MayRefuseCheckpoint (refusal_of_checkpoint old.broken)) → IfErr result (λ refusal. (refusal ≡ Device → ⊥) → new ≡ old) → OnOk result (new.broken ≡ false)
-      → new.header ≡ old.header → new.network ≡ old.network → new.version ≡ old.version
-      → (old.broken ≡ false → (c : List ℕ) → disk.left new.disk c → StandsTidyFor old.header.journal_pages (slot_pages old.header) c old.network old.version) → (old.broken ≡ true → LeavesWith old commands) → new.broken ≡ true → LeavesWith new commands
+      → new.found.header ≡ old.found.header → new.found.network ≡ old.found.network → new.found.version ≡ old.found.version
+      → (old.broken ≡ false → (c : List ℕ) → disk.left new.disk c → StandsTidyFor old.found.header.journal_pages (slot_pages old.found.header) c old.found.network old.found.version) → (old.broken ≡ true → LeavesWith old commands) → new.broken ≡ true → LeavesWith new commands
   left_after_checkpoint (Ok v) old new commands refused same works header network version left held broken = let never : true ≡ false = sym broken ∙ works in cc
   left_after_checkpoint (Err e) old new commands refused same works header network version left held broken =
       either_way old.broken (λ worked c was. stands_still old new commands header network version c (inl (left worked c was)))
@@ -112,15 +112,15 @@ module _ {D : Type 0} {disk : Ghosts D} where
 
   -- a commit of a store that then is broken
   pub left_after_commit : {T : Type 0} (result : Result T Refusal) (failed : Bool) (old new : Paged D disk) (commands before after : List (List Command))
-      → MatchResult result (λ _. refusal_of_commit old.broken old.version old.unchecked old.header.journal_pages old.network commands ≡ None) (MayRefuseCommit (refusal_of_commit old.broken old.version old.unchecked old.header.journal_pages old.network commands))
+      → MatchResult result (λ _. refusal_of_commit old.broken old.found.version old.found.unchecked old.found.header.journal_pages old.found.network commands ≡ None) (MayRefuseCommit (refusal_of_commit old.broken old.found.version old.found.unchecked old.found.header.journal_pages old.found.network commands))
       → AreInFlight result failed commands before after → IfErr result (λ refusal. (refusal ≡ Device → ⊥) → new ≡ old) → OnOk result (new.broken ≡ false)
-      → new.header ≡ old.header → OnErr result ((new.network ≡ old.network) × (new.version ≡ old.version) × (new.unchecked ≡ old.unchecked) × (new.next_sequence ≡ old.next_sequence))
-      → (old.broken ≡ false → (c : List ℕ) → disk.left new.disk c → IsBeforeOrAfter old.header.journal_pages (slot_pages old.header) old.network old.version commands c) → (old.broken ≡ true → LeavesWith old before) → new.broken ≡ true → LeavesWith new after
+      → new.found.header ≡ old.found.header → OnErr result ((new.found.network ≡ old.found.network) × (new.found.version ≡ old.found.version) × (new.found.unchecked ≡ old.found.unchecked) × (new.found.next_sequence ≡ old.found.next_sequence))
+      → (old.broken ≡ false → (c : List ℕ) → disk.left new.disk c → IsBeforeOrAfter old.found.header.journal_pages (slot_pages old.found.header) old.found.network old.found.version commands c) → (old.broken ≡ true → LeavesWith old before) → new.broken ≡ true → LeavesWith new after
   left_after_commit (Ok v) failed old new commands before after refused are same works header kept left held broken = let never : true ≡ false = sym broken ∙ works in cc
   left_after_commit (Err e) true old new commands before after refused are same works header kept left held broken =
       let is = are.0.0 refl in
       let device : e ≡ Device = cc in
-      let worked = device_at_commit old.broken old.version old.unchecked old.header.journal_pages old.network commands e refused device in
+      let worked = device_at_commit old.broken old.found.version old.found.unchecked old.found.header.journal_pages old.found.network commands e refused device in
       subst (LeavesWith new) (sym are.1) (λ c was. stands_still old new commands header kept.0 kept.1 c (left worked c was))
   left_after_commit (Err e) false old new commands before after refused are same works header kept left held broken =
       let other : e ≡ Device → ⊥ = λ device. let never : false ≡ true = are.0.1 (ap Err device) in cc in

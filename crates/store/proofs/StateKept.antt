@@ -53,7 +53,7 @@ few_pages h few =
     let ends : end_pages h < 131330 = (div-lt_iff_lt-mul (omega arith)).1 (omega (arith, few)) in
     omega (arith, words, ends)
 
-pub durable_of : {D : Type 0} {disk : Ghosts D} (pages : Paged D disk) (content : List ℕ) → HasTidyStanding content (told_by pages) → StandsTidyFor pages.header.journal_pages (slot_pages pages.header) content pages.network pages.version
+pub durable_of : {D : Type 0} {disk : Ghosts D} (pages : Paged D disk) (content : List ℕ) → HasTidyStanding content (told_by pages) → StandsTidyFor pages.found.header.journal_pages (slot_pages pages.found.header) content pages.found.network pages.found.version
 durable_of pages content stands = left_stands content (λ c. c ≡ content) (told_by pages) (λ c is. is) stands content refl
 
 -- ---- a store that came tidy
@@ -113,7 +113,7 @@ module _ {D : Type 0} {disk : Ghosts D} where
   told_same : (given : D) (old new : Paged D disk) → new ≡ old → KeepsTold given old → KeepsTold given new
   told_same given old new is keeps = subst (KeepsTold given) (sym is) keeps
 
-  pub told_after_checkpoint : {T : Type 0} (result : Result T Refusal) (given : D) (old new : Paged D disk) → disk.honest new.disk ↔ disk.honest old.disk → new.version ≡ old.version
+  pub told_after_checkpoint : {T : Type 0} (result : Result T Refusal) (given : D) (old new : Paged D disk) → disk.honest new.disk ↔ disk.honest old.disk → new.found.version ≡ old.found.version
       → IfErr result (λ refusal. (refusal ≡ Device → ⊥) → new ≡ old) → IfErr result (λ refusal. refusal ≡ Device → new.broken ≡ true) → OnOk result (old.broken ≡ false)
       → (disk.honest old.disk → standing_of (disk.content old.disk) ≡ Some (told_by old) → OnOk result (standing_of (disk.content new.disk) ≡ Some (told_by new)))
       → KeepsTold given old → KeepsTold given new
@@ -125,7 +125,7 @@ module _ {D : Type 0} {disk : Ghosts D} where
       (honest.1 kept.0, omega (arith, kept.1, version), λ none works. (told_same given old new (unchanged e old new same breaks works) keeps h x is).2 none works)
 
   pub told_after_commit : (result : Result ℕ Refusal) (given : D) (old new : Paged D disk) (count : ℕ) → 1 ≤ count → disk.honest new.disk ↔ disk.honest old.disk
-      → IfOk result (λ version. (version ≡ new.version) × (version ≡ old.version + count)) → OnErr result (new.version ≡ old.version)
+      → IfOk result (λ version. (version ≡ new.found.version) × (version ≡ old.found.version + count)) → OnErr result (new.found.version ≡ old.found.version)
       → IfErr result (λ refusal. (refusal ≡ Device → ⊥) → new ≡ old) → IfErr result (λ refusal. refusal ≡ Device → new.broken ≡ true)
       → KeepsTold given old → KeepsTold given new
   told_after_commit (Ok v) given old new count some honest version kept_version same breaks keeps = λ h x is.
@@ -140,38 +140,38 @@ module _ {D : Type 0} {disk : Ghosts D} where
   told_at_first given pages same stands = λ h x is.
       let honest = subst disk.honest same h in
       let told_is : Some x ≡ Some (told_by pages) = sym is ∙ subst (λ (d : D). standing_of (disk.content d) ≡ Some (told_by pages)) (sym same) (stands honest) in
-      let version : x.version ≡ pages.version = cc in
+      let version : x.version ≡ pages.found.version = cc in
       (honest, omega (arith, version), λ none works. stands honest)
 
   -- nothing was committed
-  pub told_before_commit : (given : D) (pages : Paged D disk) → KeepsTold given pages → disk.honest given → HasVersion (disk.content given) pages.network pages.version → pages.broken ≡ false
+  pub told_before_commit : (given : D) (pages : Paged D disk) → KeepsTold given pages → disk.honest given → HasVersion (disk.content given) pages.found.network pages.found.version → pages.broken ≡ false
       → standing_of (disk.content pages.disk) ≡ Some (told_by pages)
   told_before_commit given pages keeps honest at works =
       let next = at.0 in
       let s = at.1.0 in
-      let x : Standing = record { header = s.header; slot = s.slot; epoch = s.epoch; network = pages.network; version = pages.version; next = next; unchecked = length s.unchecked } in
-      let held : IsStoredAs (disk.content given) s.header s.slot s.epoch pages.network pages.version next (length s.unchecked) =
+      let x : Standing = record { header = s.header; slot = s.slot; epoch = s.epoch; network = pages.found.network; version = pages.found.version; next = next; unchecked = length s.unchecked } in
+      let held : IsStoredAs (disk.content given) s.header s.slot s.epoch pages.found.network pages.found.version next (length s.unchecked) =
       record { stored = s; stands = at.1.1; header_is = refl; format_is = at.1.2; slot_is = refl; epoch_is = refl; unchecked_is = refl } in
-      (keeps honest x (standing_is (disk.content given) s.header s.slot s.epoch pages.network pages.version next (length s.unchecked) held)).2 refl works
+      (keeps honest x (standing_is (disk.content given) s.header s.slot s.epoch pages.found.network pages.found.version next (length s.unchecked) held)).2 refl works
 
   pub stands_as_told : (pages : Paged D disk) (given : D) (in_flight : List (List Command)) (content : List ℕ) → standing_of content ≡ Some (told_by pages) → HasTold content (told (state_of pages given in_flight))
   stands_as_told pages given in_flight content is = record { standing = told_by pages; is = is; told_is = refl }
 
-  pub told_still : {T : Type 0} (result : Result T Refusal) (given : D) (old new : Paged D disk) (in_flight : List (List Command)) → new.network ≡ old.network → new.version ≡ old.version → OnOk result (new.broken ≡ false)
-      → KeepsTold given new → disk.honest given → HasVersion (disk.content given) old.network old.version → OnOk result (HasTold (disk.content new.disk) (told (state_of new given in_flight)))
+  pub told_still : {T : Type 0} (result : Result T Refusal) (given : D) (old new : Paged D disk) (in_flight : List (List Command)) → new.found.network ≡ old.found.network → new.found.version ≡ old.found.version → OnOk result (new.broken ≡ false)
+      → KeepsTold given new → disk.honest given → HasVersion (disk.content given) old.found.network old.found.version → OnOk result (HasTold (disk.content new.disk) (told (state_of new given in_flight)))
   told_still (Ok v) given old new in_flight network version works keeps honest at =
       stands_as_told new given in_flight (disk.content new.disk)
-      (told_before_commit given new keeps honest (subst (λ (v : ℕ). HasVersion (disk.content given) new.network v) (sym version) (subst (λ (n : Net). HasVersion (disk.content given) n old.version) (sym network) at)) works)
+      (told_before_commit given new keeps honest (subst (λ (v : ℕ). HasVersion (disk.content given) new.found.network v) (sym version) (subst (λ (n : Net). HasVersion (disk.content given) n old.found.version) (sym network) at)) works)
   told_still (Err e) given old new in_flight network version works keeps honest at = tt
 
   pub told_armed : (given : D) (old new : Paged D disk) → told_by new ≡ told_by old → new.broken ≡ old.broken → disk.content new.disk ≡ disk.content old.disk → disk.honest new.disk ↔ disk.honest old.disk
       → KeepsTold given old → KeepsTold given new
   told_armed given old new same broken content honest keeps = λ h x is.
       let kept = keeps h x is in
-      let version : new.version ≡ old.version = ap (λ (y : Standing). y.version) same in
+      let version : new.found.version ≡ old.found.version = ap (λ (y : Standing). y.version) same in
       (honest.1 kept.0, omega (arith, kept.1, version), λ none works. ap standing_of content ∙ kept.2 (none ∙ version) (sym broken ∙ works) ∙ ap Some (sym same))
 
 pub kept_version : {D : Type 0} {disk : Ghosts D} (result : Result ℕ Refusal) (old new : Paged D disk)
-    → OnErr result ((new.network ≡ old.network) × (new.version ≡ old.version) × (new.unchecked ≡ old.unchecked) × (new.next_sequence ≡ old.next_sequence)) → OnErr result (new.version ≡ old.version)
+    → OnErr result ((new.found.network ≡ old.found.network) × (new.found.version ≡ old.found.version) × (new.found.unchecked ≡ old.found.unchecked) × (new.found.next_sequence ≡ old.found.next_sequence)) → OnErr result (new.found.version ≡ old.found.version)
 kept_version (Ok v) old new kept = tt
 kept_version (Err e) old new kept = kept.1

@@ -1,7 +1,7 @@
 -- The parts of opening a file.
-use Rattle.std.specs.Prelude.{◌≡◌, ◌⊎◌, Some, ℕ, ◌+◌, ◌*◌, nat_le, ◌==◌, List, length, Result, Ok}
+use Rattle.std.specs.Prelude.{◌≡◌, ◌⊎◌, ◌≤◌, Some, ℕ, ◌+◌, ◌*◌, nat_le, ◌==◌, List, length, Result, Ok}
 use Rattle.storefile.specs.StoreFile.{page, joined, StandsFor}
-use Rattle.storefile.specs.Standing.{Standing}
+use Rattle.storefile.specs.Standing.{Standing, HasFitNumbers}
 use Rattle.store.specs.declared.found.Found.{Found}
 use Rattle.roadnet.specs.declared.commands.Command.{Command}
 use Rattle.roadnet.specs.declared.refusals.Refusal.{Refusal}
@@ -96,6 +96,11 @@ pub record IsFoundBehind (h : Header) (slot : Slot) (head : Head) (found : Found
   pub slot_is : found.slot ≡ slot
   pub epoch : found.epoch ≡ head.epoch
   pub next : found.next_sequence ≡ head.next_sequence + found.unchecked
+
+-- none of its numbers is past what its pages can spell, and the arcs that the store was made with are among the network's
+pub record IsSound (found : Found) : Type 0 where
+  pub numbers : HasFitNumbers found.header found.epoch found.version found.next_sequence found.unchecked
+  pub arcs_from : found.header.arcs ≤ length found.network.arcs
 
 -- it has the network and the version after the journal behind that slot
 abbrev pub HasJournalOf : (ℕ → List ℕ) → Header → Head → Net → Found → Type 0

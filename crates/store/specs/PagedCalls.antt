@@ -19,10 +19,10 @@ use Rattle.store.specs.Durable.{told_by, going_of}
 
 -- the durable network and its version stay, and so does the place of the journal page that is written next
 pub record KeepsDurable {D : Type 0} {disk : Ghosts D} (old new : Paged D disk) : Type 0 where
-  pub network : new.network ≡ old.network
-  pub version : new.version ≡ old.version
-  pub header : new.header ≡ old.header
-  pub next : new.next_sequence ≡ old.next_sequence
+  pub network : new.found.network ≡ old.found.network
+  pub version : new.found.version ≡ old.found.version
+  pub header : new.found.header ≡ old.found.header
+  pub next : new.found.next_sequence ≡ old.found.next_sequence
 
 -- The count of failures rises by one where a failure of the disk is told, and else not at all: none is passed over. The disk failed in this call
 -- then, and the store is broken. The disk is honest after the call where it was before.
@@ -42,11 +42,11 @@ pub record RefusesCheckpoint {D T : Type 0} {disk : Ghosts D} (result : Result T
 
 -- why a commit of these groups is refused whatever memory and the disk give
 abbrev pub commit_refusal_by : {D : Type 0} {disk : Ghosts D} → Paged D disk → List (List Command) → Option Refusal
-commit_refusal_by s groups = refusal_of_commit s.broken s.version s.unchecked s.header.journal_pages s.network groups
+commit_refusal_by s groups = refusal_of_commit s.broken s.found.version s.found.unchecked s.found.header.journal_pages s.found.network groups
 
 -- network, version and the numbers of the journal stay
 abbrev pub KeepsNumbers : {D : Type 0} {disk : Ghosts D} → Paged D disk → Paged D disk → Type 0
-KeepsNumbers old new = (new.network ≡ old.network) × (new.version ≡ old.version) × (new.unchecked ≡ old.unchecked) × (new.next_sequence ≡ old.next_sequence)
+KeepsNumbers old new = (new.found.network ≡ old.found.network) × (new.found.version ≡ old.found.version) × (new.found.unchecked ≡ old.found.unchecked) × (new.found.next_sequence ≡ old.found.next_sequence)
 
 -- ---- what the content stands for, over an honest disk
 
@@ -65,10 +65,10 @@ KeepsAsTold {D} {T} {disk} result old new =
 
 -- this content stands for the network and version of these pages, or for those after these groups too
 abbrev pub IsFor : {D : Type 0} {disk : Ghosts D} → Paged D disk → List ℕ → Type 0
-IsFor s c = StandsTidyFor s.header.journal_pages (slot_pages s.header) c s.network s.version
+IsFor s c = StandsTidyFor s.found.header.journal_pages (slot_pages s.found.header) c s.found.network s.found.version
 
 abbrev pub IsForOrAfter : {D : Type 0} {disk : Ghosts D} → Paged D disk → List (List Command) → List ℕ → Type 0
-IsForOrAfter s groups c = IsBeforeOrAfter s.header.journal_pages (slot_pages s.header) s.network s.version groups c
+IsForOrAfter s groups c = IsBeforeOrAfter s.found.header.journal_pages (slot_pages s.found.header) s.found.network s.found.version groups c
 
 -- a stop at any moment of the call leaves such a content
 abbrev pub LeavesFor : {D : Type 0} {disk : Ghosts D} → Paged D disk → Paged D disk → Type 0

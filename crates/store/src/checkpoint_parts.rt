@@ -19,7 +19,7 @@ impl<D: Disk> Paged<D> {
     pub(crate) fn begin_checkpoint(&mut self) -> Result<(), Refusal>
         requires works { self.old.broken ≡ false }
         requires none { self.old.going ≡ None }
-        requires some { self.old.unchecked ≢ 0 }
+        requires some { self.old.found.unchecked ≢ 0 }
         ensures told { told_by self.new ≡ told_by self.old }
         ensures going { OnOk result (going_of self.new ≡ Some (begun_by self.old)) }
         ensures works { OnOk result (self.new.broken ≡ false) }
@@ -31,19 +31,19 @@ impl<D: Disk> Paged<D> {
         ensures stands { KeepsStanding result self.old self.new }
         ensures as_told { KeepsAsTold result self.old self.new }
     {
-        let Ok(frozen) = self.network.copy() else {
+        let Ok(frozen) = self.found.network.copy() else {
             return Err(Refusal::OutOfMemory);
         };
         let Ok(next) = NextCheckpoint::new(
             self.alloc,
-            self.slot,
-            self.epoch,
-            self.version,
-            self.next_sequence,
+            self.found.slot,
+            self.found.epoch,
+            self.found.version,
+            self.found.next_sequence,
         ) else {
             return Err(Refusal::OutOfMemory);
         };
-        let Ok(()) = next.begin(&mut self.disk, &self.header) else {
+        let Ok(()) = next.begin(&mut self.disk, &self.found.header) else {
             self.broken = true;
             return Err(Refusal::Device);
         };
@@ -64,10 +64,10 @@ impl<D: Disk> Paged<D> {
         ensures keeps { KeepsDurable self.old self.new }
         ensures answers { IfOk result (λ part. part ≡ part_by (parts_of self.old) pages) }
         ensures going { OnOk result (going_of self.new ≡ progress_by (parts_of self.old) pages) }
-        ensures unchecked { OnOk result (self.new.unchecked ≡ unchecked_by (parts_of self.old) self.old.unchecked pages) }
+        ensures unchecked { OnOk result (self.new.found.unchecked ≡ unchecked_by (parts_of self.old) self.old.found.unchecked pages) }
         ensures works { OnOk result (self.new.broken ≡ false) }
-        ensures slot { OnOk result (self.new.slot ≡ slot_by (parts_of self.old) self.old.slot pages) }
-        ensures epoch { OnOk result (self.new.epoch ≡ epoch_by (parts_of self.old) self.old.epoch pages) }
+        ensures slot { OnOk result (self.new.found.slot ≡ slot_by (parts_of self.old) self.old.found.slot pages) }
+        ensures epoch { OnOk result (self.new.found.epoch ≡ epoch_by (parts_of self.old) self.old.found.epoch pages) }
         ensures refused { IfErr result (λ refusal. refusal ≡ device) }
         ensures tells { TellsFailures result self.old self.new }
         ensures kept { OnErr result ((told_by self.new ≡ told_by self.old) × (going_of self.new ≡ going_of self.old)) }
@@ -81,7 +81,7 @@ impl<D: Disk> Paged<D> {
         let mut going = going;
         let Ok(whole) = going
             .next
-            .go_on(&mut self.disk, &self.header, &going.frozen, pages)
+            .go_on(&mut self.disk, &self.found.header, &going.frozen, pages)
         else {
             self.broken = true;
             self.going = Some(going);
@@ -91,9 +91,9 @@ impl<D: Disk> Paged<D> {
             self.going = Some(going);
             return Ok(Part::Going);
         }
-        self.slot = going.next.slot();
-        self.epoch = going.next.epoch();
-        self.unchecked = going.committed;
+        self.found.slot = going.next.slot();
+        self.found.epoch = going.next.epoch();
+        self.found.unchecked = going.committed;
         Ok(Part::Done(going.next.version()))
     }
 
@@ -104,14 +104,14 @@ impl<D: Disk> Paged<D> {
         // Network and version stay, even after a refusal.
         ensures keeps { KeepsDurable self.old self.new }
         // If no checkpoint is going and no page is unchecked, nothing is changed, not even on the disk.
-        ensures nothing { self.old.broken ≡ false → has_all_checked self.old ≡ true → (result ≡ Ok (Part.Done self.old.version)) × (self.new ≡ self.old) }
+        ensures nothing { self.old.broken ≡ false → has_all_checked self.old ≡ true → (result ≡ Ok (Part.Done self.old.found.version)) × (self.new ≡ self.old) }
         // Otherwise this many more pages are written, or all that are left, and only what was committed since is unchecked.
         ensures answers { has_all_checked self.old ≡ false → IfOk result (λ part. part ≡ part_by (parts_of self.old) pages) }
         ensures going { has_all_checked self.old ≡ false → OnOk result (going_of self.new ≡ progress_by (parts_of self.old) pages) }
-        ensures unchecked { has_all_checked self.old ≡ false → OnOk result (self.new.unchecked ≡ unchecked_by (parts_of self.old) self.old.unchecked pages) }
+        ensures unchecked { has_all_checked self.old ≡ false → OnOk result (self.new.found.unchecked ≡ unchecked_by (parts_of self.old) self.old.found.unchecked pages) }
         // Once it is done, the other slot is current, with the next epoch.
-        ensures slot { has_all_checked self.old ≡ false → OnOk result (self.new.slot ≡ slot_by (parts_of self.old) self.old.slot pages) }
-        ensures epoch { has_all_checked self.old ≡ false → OnOk result (self.new.epoch ≡ epoch_by (parts_of self.old) self.old.epoch pages) }
+        ensures slot { has_all_checked self.old ≡ false → OnOk result (self.new.found.slot ≡ slot_by (parts_of self.old) self.old.found.slot pages) }
+        ensures epoch { has_all_checked self.old ≡ false → OnOk result (self.new.found.epoch ≡ epoch_by (parts_of self.old) self.old.found.epoch pages) }
         ensures works { OnOk result (self.new.broken ≡ false) }
         ensures refuses { RefusesCheckpoint result self.old self.new }
         ensures tells { TellsFailures result self.old self.new }
@@ -131,8 +131,8 @@ impl<D: Disk> Paged<D> {
         if self.going.is_some() {
             return self.go_on(pages);
         }
-        if self.unchecked == 0 {
-            return Ok(Part::Done(self.version));
+        if self.found.unchecked == 0 {
+            return Ok(Part::Done(self.found.version));
         }
         self.begin_checkpoint()?;
         match self.go_on(pages) {

@@ -19,10 +19,10 @@ impl<D: Disk> Paged<D> {
         ensures keeps { KeepsDurable self.old self.new }
         ensures answers { IfOk result (λ version. version ≡ (parts_of self.old).version) }
         ensures going { OnOk result (going_of self.new ≡ None) }
-        ensures unchecked { OnOk result (self.new.unchecked ≡ (parts_of self.old).committed) }
+        ensures unchecked { OnOk result (self.new.found.unchecked ≡ (parts_of self.old).committed) }
         ensures works { OnOk result (self.new.broken ≡ false) }
-        ensures slot { OnOk result (self.new.slot ≡ other self.old.slot) }
-        ensures epoch { OnOk result (self.new.epoch ≡ self.old.epoch + 1) }
+        ensures slot { OnOk result (self.new.found.slot ≡ other self.old.found.slot) }
+        ensures epoch { OnOk result (self.new.found.epoch ≡ self.old.found.epoch + 1) }
         ensures refused { IfErr result (λ refusal. refusal ≡ device) }
         ensures tells { TellsFailures result self.old self.new }
         ensures kept { OnErr result ((told_by self.new ≡ told_by self.old) × (going_of self.new ≡ going_of self.old)) }
@@ -36,7 +36,7 @@ impl<D: Disk> Paged<D> {
         let mut going = going;
         let Ok(()) = going.next.complete(
             &mut self.disk,
-            &self.header,
+            &self.found.header,
             &going.frozen,
             PAGES_AT_ONCE as u32,
         )
@@ -45,9 +45,9 @@ impl<D: Disk> Paged<D> {
             self.going = Some(going);
             return Err(Refusal::Device);
         };
-        self.slot = going.next.slot();
-        self.epoch = going.next.epoch();
-        self.unchecked = going.committed;
+        self.found.slot = going.next.slot();
+        self.found.epoch = going.next.epoch();
+        self.found.unchecked = going.committed;
         Ok(going.next.version())
     }
 
@@ -56,14 +56,14 @@ impl<D: Disk> Paged<D> {
         // Network and version stay, even after a refusal.
         ensures keeps { KeepsDurable self.old self.new }
         // If no checkpoint is going and no page is unchecked, nothing is changed, not even on the disk.
-        ensures nothing { self.old.broken ≡ false → has_all_checked self.old ≡ true → (result ≡ Ok self.old.version) × (self.new ≡ self.old) }
+        ensures nothing { self.old.broken ≡ false → has_all_checked self.old ≡ true → (result ≡ Ok self.old.found.version) × (self.new ≡ self.old) }
         ensures answers { IfOk result (λ version. version ≡ (parts_of self.old).version) }
         ensures going { OnOk result (going_of self.new ≡ None) }
-        ensures unchecked { OnOk result (self.new.unchecked ≡ (parts_of self.old).committed) }
+        ensures unchecked { OnOk result (self.new.found.unchecked ≡ (parts_of self.old).committed) }
         ensures works { OnOk result (self.new.broken ≡ false) }
         // Otherwise, at Ok, the other slot is current, with the next epoch.
-        ensures slot { has_all_checked self.old ≡ false → OnOk result (self.new.slot ≡ other self.old.slot) }
-        ensures epoch { has_all_checked self.old ≡ false → OnOk result (self.new.epoch ≡ self.old.epoch + 1) }
+        ensures slot { has_all_checked self.old ≡ false → OnOk result (self.new.found.slot ≡ other self.old.found.slot) }
+        ensures epoch { has_all_checked self.old ≡ false → OnOk result (self.new.found.epoch ≡ self.old.found.epoch + 1) }
         ensures refuses { RefusesCheckpoint result self.old self.new }
         ensures tells { TellsFailures result self.old self.new }
         ensures kept { OnErr result ((told_by self.new ≡ told_by self.old) × (going_of self.new ≡ going_of self.old)) }
@@ -81,8 +81,8 @@ impl<D: Disk> Paged<D> {
         if self.going.is_some() {
             return self.complete_checkpoint();
         }
-        if self.unchecked == 0 {
-            return Ok(self.version);
+        if self.found.unchecked == 0 {
+            return Ok(self.found.version);
         }
         self.begin_checkpoint()?;
         match self.complete_checkpoint() {

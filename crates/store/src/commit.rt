@@ -34,17 +34,17 @@ impl<D: Disk> Paged<D> {
         requires some { 1 ≤ length groups.now }
         requires few { count_of groups.now ≤ most_commands }
         // At Ok the groups are carried out, each counts one version, and there is one more unchecked page.
-        ensures version { IfOk result (λ version. (version ≡ self.new.version) × (version ≡ self.old.version + length groups.now)) }
-        ensures network { OnOk result (after self.old.network groups.now ≡ Some self.new.network) }
-        ensures unchecked { OnOk result (self.new.unchecked ≡ self.old.unchecked + 1) }
-        ensures next { OnOk result (self.new.next_sequence ≡ self.old.next_sequence + 1) }
+        ensures version { IfOk result (λ version. (version ≡ self.new.found.version) × (version ≡ self.old.found.version + length groups.now)) }
+        ensures network { OnOk result (after self.old.found.network groups.now ≡ Some self.new.found.network) }
+        ensures unchecked { OnOk result (self.new.found.unchecked ≡ self.old.found.unchecked + 1) }
+        ensures next { OnOk result (self.new.found.next_sequence ≡ self.old.found.next_sequence + 1) }
         ensures works { OnOk result (self.new.broken ≡ false) }
         // A checkpoint that is going continues, and counts the page.
         ensures going { OnOk result (going_of self.new ≡ option_map with_page_committed (going_of self.old)) }
         ensures same_going { OnErr result (going_of self.new ≡ going_of self.old) }
-        ensures header { self.new.header ≡ self.old.header }
-        ensures slot { self.new.slot ≡ self.old.slot }
-        ensures epoch { self.new.epoch ≡ self.old.epoch }
+        ensures header { self.new.found.header ≡ self.old.found.header }
+        ensures slot { self.new.found.slot ≡ self.old.found.slot }
+        ensures epoch { self.new.found.epoch ≡ self.old.found.epoch }
         // It refuses if there is a cause. If there is none, it may refuse only for lack of memory, or because the disk failed in this call.
         ensures refused { RefusesCommit (commit_refusal_by self.old groups.now) result }
         ensures same { IfErr result (λ refusal. refusal ≢ device → self.new ≡ self.old) }
@@ -63,29 +63,29 @@ impl<D: Disk> Paged<D> {
             return Err(Refusal::Broken);
         }
         let count = groups.len() as u64;
-        if self.version + count > MOST_VERSIONS {
+        if self.found.version + count > MOST_VERSIONS {
             return Err(Refusal::VersionsExhausted);
         }
-        if self.unchecked >= self.header.journal_pages {
+        if self.found.unchecked >= self.found.header.journal_pages {
             return Err(Refusal::JournalFull);
         }
         none_is_empty(groups);
-        let undo = self.network.carry_out(groups)?;
+        let undo = self.found.network.carry_out(groups)?;
         let Ok(()) = append_page(
             &mut self.disk,
-            &self.header,
-            self.next_sequence,
-            self.version + 1,
+            &self.found.header,
+            self.found.next_sequence,
+            self.found.version + 1,
             groups,
         ) else {
-            self.network.take_back(undo);
+            self.found.network.take_back(undo);
             self.broken = true;
             return Err(Refusal::Device);
         };
-        self.version += count;
-        self.next_sequence += 1;
-        self.unchecked += 1;
+        self.found.version += count;
+        self.found.next_sequence += 1;
+        self.found.unchecked += 1;
         count_page(&mut self.going);
-        Ok(self.version)
+        Ok(self.found.version)
     }
 }

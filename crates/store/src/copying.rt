@@ -39,12 +39,9 @@ pub fn copy_in<O: Disk, D: Disk>(
     };
     let Found {
         header,
-        slot: _,
-        epoch: _,
         network,
         version,
-        next_sequence: _,
-        unchecked: _,
+        ..
     } = found;
     let network = match with_given_room(network, room) {
         Ok(network) => network,

@@ -16,6 +16,7 @@ ghost use Rattle.store.specs.State.{checkpoint_pages_of, IsNewFor, IsCountedBy};
 ghost use Rattle.store.specs.Created.{IsLaidOut, arc_bytes, word_bytes, blank_bytes, with_both_gates, Adds, IsInStep};
 
 use crate::batch::Batch;
+use crate::found::Found;
 use crate::paged::Paged;
 use checkpoint::part_of;
 use disk::{Disk, DiskError, length_of, open_gate, settle};
@@ -138,12 +139,12 @@ pub fn create_paged<D: Disk>(
     requires versions { version ≤ most_versions }
     requires some { 1 ≤ journal_pages }
     requires few { journal_pages ≤ 65536 }
-    ensures network { IfOk result (λ store. store.network ≡ network.now) }
-    ensures version { IfOk result (λ store. store.version ≡ version) }
-    ensures journal_pages { IfOk result (λ store. store.header.journal_pages ≡ journal_pages) }
-    ensures checkpoint_pages { IfOk result (λ store. slot_pages store.header ≡ checkpoint_pages_of (length network.now.arcs) network.now) }
-    ensures unchecked { IfOk result (λ store. store.unchecked ≡ 0) }
-    ensures slot { IfOk result (λ store. (store.slot ≡ slot_a) × (store.epoch ≡ 1)) }
+    ensures network { IfOk result (λ store. store.found.network ≡ network.now) }
+    ensures version { IfOk result (λ store. store.found.version ≡ version) }
+    ensures journal_pages { IfOk result (λ store. store.found.header.journal_pages ≡ journal_pages) }
+    ensures checkpoint_pages { IfOk result (λ store. slot_pages store.found.header ≡ checkpoint_pages_of (length network.now.arcs) network.now) }
+    ensures unchecked { IfOk result (λ store. store.found.unchecked ≡ 0) }
+    ensures slot { IfOk result (λ store. (store.found.slot ≡ slot_a) × (store.found.epoch ≡ 1)) }
     ensures works { IfOk result (λ store. store.broken ≡ false) }
     ensures none_going { IfOk result (λ store. going_of store ≡ None) }
     // The content stands for the network at this version and is tidy. It has this many journal pages and slots for the network's room, and a stop may leave
@@ -152,7 +153,7 @@ pub fn create_paged<D: Disk>(
     // The file is that of a new store: it has all its arcs from the beginning, and its journal begins with page 0.
     ensures made { D.honest disk → IfOk result (λ store. IsNewFile journal_pages network.now version (D.content store.disk)) }
     ensures only { D.honest disk → IfOk result (λ store. Only (D.content store.disk) (D.left store.disk)) }
-    ensures tidy { D.honest disk → IfOk result (λ store. IsTidyAt (D.content store.disk) store.header store.next_sequence) }
+    ensures tidy { D.honest disk → IfOk result (λ store. IsTidyAt (D.content store.disk) store.found.header store.found.next_sequence) }
     ensures standing { D.honest disk → IfOk result (λ store. standing_of (D.content store.disk) ≡ Some (told_by store)) }
     ensures empty { D.honest disk → IfOk result (λ store. D.content disk ≡ []) }
     ensures refused { IfErr result (λ refused. (refused.0 ≡ not_empty) ⊎ ((refused.0 ≡ device) ⊎ (refused.0 ≡ out_of_memory))) }
@@ -193,13 +194,15 @@ pub fn create_paged<D: Disk>(
     Ok(Paged {
         alloc,
         disk,
-        header,
-        network: copy,
-        version,
-        slot: Slot::A,
-        epoch: 1,
-        next_sequence: 0,
-        unchecked: 0,
+        found: Found {
+            header,
+            slot: Slot::A,
+            epoch: 1,
+            network: copy,
+            version,
+            next_sequence: 0,
+            unchecked: 0,
+        },
         broken: false,
         going: None,
     })

@@ -9,7 +9,7 @@ ghost use Rattle.storefile.specs.Standing.{standing_in, standing_of};
 ghost use Rattle.pagereader.specs.Outcomes.{MayRefuse, MayEndOpening};
 ghost use Rattle.pagereader.specs.Reading.{HasFileOf, ReadsToOpen};
 ghost use Rattle.store.specs.Durable.{told_by, going_of};
-ghost use Rattle.store.specs.Opening.{standing_by, HeaderFits, HeaderFitsIn, current_from, current_of, journal_behind, IsFoundBehind, HasJournalOf, IsPassing, MayRefuseToOpen, IsStoreFile};
+ghost use Rattle.store.specs.Opening.{standing_by, HeaderFits, HeaderFitsIn, current_from, current_of, journal_behind, IsFoundBehind, IsSound, HasJournalOf, IsPassing, MayRefuseToOpen, IsStoreFile};
 ghost use Rattle.store.specs.State.{IsCountedBy};
 
 use crate::found::Found;
@@ -59,6 +59,7 @@ fn read_journal<D: Disk>(
     requires count { length network.arcs ≡ head.now.arcs }
     ensures carried_out { D.honest disk.old → IfOk result (HasJournalOf (page (D.content disk.old)) header.now head.now network) }
     ensures found { IfOk result (IsFoundBehind header.now slot head.now) }
+    ensures sound { IfOk result IsSound }
     ensures refused { D.honest disk.old → IfErr result (MayRefuse (journal_behind (page (D.content disk.old)) header.now head.now network)) }
     ensures reads { ReadsToOpen D.Disk result disk.old disk.new }
 {
@@ -80,6 +81,7 @@ fn read_journal<D: Disk>(
 /// (40), it has another format (41), or a page is damaged (42). At each step the disk may fail (43). After the header there may be no memory (11).
 pub fn find<D: Disk>(alloc: Global, disk: &mut D, format: Format) -> Result<Found, Refusal>
     ensures standing { D.honest disk.old → IfOk result (λ found. standing_in (opened_in format (D.content disk.old)) ≡ Some (standing_by found)) }
+    ensures sound { IfOk result IsSound }
     ensures format { IfOk result (λ found. found.header.format ≡ format) }
     ensures refused { D.honest disk.old → IfErr result (λ refusal. MayRefuse (opened_in format (D.content disk.old)) refusal) }
     ensures at_rest { D.honest disk.old → OnOk result (Only (D.content disk.new) (D.left disk.new)) }
@@ -98,7 +100,7 @@ pub fn find<D: Disk>(alloc: Global, disk: &mut D, format: Format) -> Result<Foun
 /// The pages of the store on a disk, as `open` finds them.
 pub fn open_paged<D: Disk>(alloc: Global, disk: D) -> Result<Paged<D>, (Refusal, D)>
     // The content stands for the store's network and version, and a stop may leave nothing else.
-    ensures stands { D.honest disk → IfOk result (λ store. StandsFor (D.content disk) store.network store.version store.next_sequence) }
+    ensures stands { D.honest disk → IfOk result (λ store. StandsFor (D.content disk) store.found.network store.found.version store.found.next_sequence) }
     ensures standing { D.honest disk → IfOk result (λ store. standing_of (D.content disk) ≡ Some (told_by store)) }
     ensures at_rest { D.honest disk → IfOk result (λ store. Only (D.content store.disk) (D.left store.disk)) }
     ensures works { IfOk result (λ store. store.broken ≡ false) }
@@ -122,25 +124,10 @@ pub fn open_paged<D: Disk>(alloc: Global, disk: D) -> Result<Paged<D>, (Refusal,
         Ok(found) => found,
         Err(refusal) => return Err((refusal, disk)),
     };
-    let Found {
-        header,
-        slot,
-        epoch,
-        network,
-        version,
-        next_sequence,
-        unchecked,
-    } = found;
     Ok(Paged {
         alloc,
         disk,
-        header,
-        network,
-        version,
-        slot,
-        epoch,
-        next_sequence,
-        unchecked,
+        found,
         broken: false,
         going: None,
     })

@@ -6,10 +6,9 @@ ghost use Rattle.storefile.specs.Standing.{HasFitNumbers};
 ghost use Rattle.store.specs.Resting.{IsAtRest};
 ghost use Rattle.store.specs.Going.{FitsStore, GoesOn};
 
+use crate::found::Found;
 use crate::going::GoingCheckpoint;
 use disk::Disk;
-use pages::{Header, Slot};
-use roadnet::Network;
 use std::alloc::Global;
 
 /// The pages of a store: its disk, and what is known of them.
@@ -17,24 +16,16 @@ use std::alloc::Global;
 pub struct Paged<D: Disk> {
     pub(crate) alloc: Global,
     pub(crate) disk: D,
-    pub(crate) header: Header,
-    pub(crate) network: Network,
-    pub(crate) version: u64,
-    /// The current slot, and its epoch.
-    pub(crate) slot: Slot,
-    pub(crate) epoch: u64,
-    /// The sequence of the journal page that is written next.
-    pub(crate) next_sequence: u64,
-    /// How many journal pages follow the current slot.
-    pub(crate) unchecked: u32,
+    /// Where it stands in its file.
+    pub(crate) found: Found,
     /// A write of the disk failed.
     pub(crate) broken: bool,
     /// The checkpoint that is going.
     pub(crate) going: Option<GoingCheckpoint>,
-    ghost numbers: { HasFitNumbers header epoch version next_sequence unchecked },
-    ghost today: { header.format ≡ two },
-    ghost arcs_from: { header.arcs ≤ length network.arcs },
-    ghost rests: { broken ≡ false → D.honest disk → IsAtRest (D.content disk) (D.left disk) header },
-    ghost fits: { IfSome going (λ g. FitsStore header slot epoch version next_sequence unchecked g.next g.committed) } by { Prim.hlevel props },
-    ghost goes_on: { broken ≡ false → D.honest disk → ∥ IfSome going (λ g. GoesOn (D.content disk) header g.next g.frozen g.committed network version next_sequence) ∥₁ },
+    ghost numbers: { HasFitNumbers found.header found.epoch found.version found.next_sequence found.unchecked },
+    ghost today: { found.header.format ≡ two },
+    ghost arcs_from: { found.header.arcs ≤ length found.network.arcs },
+    ghost rests: { broken ≡ false → D.honest disk → IsAtRest (D.content disk) (D.left disk) found.header },
+    ghost fits: { IfSome going (λ g. FitsStore found.header found.slot found.epoch found.version found.next_sequence found.unchecked g.next g.committed) } by { Prim.hlevel props },
+    ghost goes_on: { broken ≡ false → D.honest disk → ∥ IfSome going (λ g. GoesOn (D.content disk) found.header g.next g.frozen g.committed found.network found.version found.next_sequence) ∥₁ },
 }

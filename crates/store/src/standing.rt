@@ -47,9 +47,9 @@ impl<D: Disk> Store<D> {
         ensures before_commit { BeforeCommit D.honest D.content self.now (HasStanding (D.content self.now.disk) self.now.network self.now.version result) }
     {
         Standing {
-            slot: self.pages.slot,
-            epoch: self.pages.epoch,
-            unchecked: self.pages.unchecked,
+            slot: self.pages.found.slot,
+            epoch: self.pages.found.epoch,
+            unchecked: self.pages.found.unchecked,
         }
     }
 }

@@ -52,7 +52,7 @@ impl<D: Disk> Model for Store<D> {
         × (CameTidy D.honest D.content s.given.value
         → D.honest s.pages.disk
         × (s.pages.broken ≡ false → Only (D.content s.pages.disk) (D.left s.pages.disk) × HasTidyStanding (D.content s.pages.disk) (told_by s.pages))
-        × (s.pages.broken ≡ true → (c : List ℕ) → D.left s.pages.disk c → IsBeforeOrAfter s.pages.header.journal_pages (slot_pages s.pages.header) s.pages.network s.pages.version s.in_flight.groups c))
+        × (s.pages.broken ≡ true → (c : List ℕ) → D.left s.pages.disk c → IsBeforeOrAfter s.pages.found.header.journal_pages (slot_pages s.pages.found.header) s.pages.found.network s.pages.found.version s.in_flight.groups c))
         × KeepsTold s.given.value s.pages };
 }
 
@@ -61,7 +61,7 @@ impl<D: Disk> Store<D> {
     pub fn network(&self) -> &Network
         ensures { result.now ≡ self.now.network }
     {
-        &self.pages.network
+        &self.pages.found.network
     }
 
     /// The version of the durable network: how many groups were ever made durable. If the store came tidy, on a disk that keeps the disk model, and is not
@@ -80,7 +80,7 @@ impl<D: Disk> Store<D> {
         ensures none_in_flight { self.now.broken ≡ false → self.now.in_flight ≡ [] }
         ensures checkpoint_pages { CameTidy D.honest D.content self.now.given → self.now.broken ≡ false → HasCheckpointPages self.now }
     {
-        self.pages.version
+        self.pages.found.version
     }
 
     /// How many pages of the journal follow the current checkpoint. If the store came tidy, or nothing was committed since, on a disk that keeps the disk
@@ -90,14 +90,14 @@ impl<D: Disk> Store<D> {
         ensures stands { CameTidy D.honest D.content self.now.given → self.now.broken ≡ false → HasTold (D.content self.now.disk) (told self.now) }
         ensures before_commit { HasCommittedNothing D.honest D.content self.now → self.now.broken ≡ false → HasTold (D.content self.now.disk) (told self.now) }
     {
-        self.pages.unchecked
+        self.pages.found.unchecked
     }
 
     /// How many pages the journal has.
     pub fn journal_pages(&self) -> u32
         ensures { result ≡ self.now.journal_pages }
     {
-        self.pages.header.journal_pages
+        self.pages.found.header.journal_pages
     }
 
     /// Whether the store is not broken and no checkpoint is going.

@@ -22,7 +22,7 @@ invariant_of-result g c = (
 )
 
 pub returns-clause-stands : goal.returns-clause-stands
-returns-clause-stands g c honest = (c.in_ok-pages.pages.next_sequence, c.in_ok-pages.ensures.stands honest)
+returns-clause-stands g c honest = (c.in_ok-pages.pages.found.next_sequence, c.in_ok-pages.ensures.stands honest)
 
 pub returns-clause-told : goal.returns-clause-told
 returns-clause-told g c honest = record { standing = told_by c.in_ok-pages.pages; is = c.in_ok-pages.ensures.standing honest; told_is = refl }

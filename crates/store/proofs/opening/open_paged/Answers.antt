@@ -6,9 +6,9 @@ use Rattle.store.proofs.opening.open_paged.Goals as goal
 
 pub invariant_of-result : goal.invariant_of-result
 invariant_of-result g c = record {
-  numbers = c.in-Ok.found.numbers;
+  numbers = c.in-Ok.ensures.sound.numbers;
   today = c.in-Ok.ensures.format;
-  arcs_from = c.in-Ok.found.arcs_from;
+  arcs_from = c.in-Ok.ensures.sound.arcs_from;
   rests = λ works now.
       let h = c.find.ensures.reads.honest.0 now in
       (c.in-Ok.ensures.at_rest h, ap length (c.find.ensures.reads.same h).same_content ∙ size_told (g.D.Disk.content c.args.disk) _ (c.in-Ok.ensures.standing h));

@@ -9,13 +9,13 @@ use Rattle.store.proofs.paged.Paged.checkpoint_part.Goals as goal
 pub returns-then-self-eq0-clause-any_moment : goal.returns-then-self-eq0-clause-any_moment
 returns-then-self-eq0-clause-any_moment g c works h stands =
     let s = c.args.self.now in
-    let x : Standing = record { header = s.header; slot = s.slot; epoch = s.epoch; network = s.network; version = s.version; next = s.next_sequence; unchecked = s.unchecked } in
+    let x : Standing = record { header = s.found.header; slot = s.found.slot; epoch = s.found.epoch; network = s.found.network; version = s.found.version; next = s.found.next_sequence; unchecked = s.found.unchecked } in
     no_call g.D.Disk.content g.D.Disk.left g.D.Disk.moment g.D.Disk.left_since s.disk x (s.rests works h).0 (λ d since. g.met.D.Disk.only_now s.disk d h since) stands
 
 pub returns-then-self-eq0-clause-left : goal.returns-then-self-eq0-clause-left
 returns-then-self-eq0-clause-left g c works h stands =
     let s = c.args.self.now in
-    let x : Standing = record { header = s.header; slot = s.slot; epoch = s.epoch; network = s.network; version = s.version; next = s.next_sequence; unchecked = s.unchecked } in
+    let x : Standing = record { header = s.found.header; slot = s.found.slot; epoch = s.found.epoch; network = s.found.network; version = s.found.version; next = s.found.next_sequence; unchecked = s.found.unchecked } in
     only_stands (g.D.Disk.content s.disk) (g.D.Disk.left s.disk) x (s.rests works h).0 stands
 
 pub returns-then-is_some-clause-left : goal.returns-then-is_some-clause-left

@@ -13,9 +13,9 @@ invariant_of-self g c =
     let n = c.arm.new.self in
     let e = c.arm.ensures in
     let told : told_by n ≡ told_by p = e.told in
-    let header : n.header ≡ p.header = ap (λ (x : Standing). x.header) told in
-    let network : n.network ≡ p.network = ap (λ (x : Standing). x.network) told in
-    let version : n.version ≡ p.version = ap (λ (x : Standing). x.version) told in (
+    let header : n.found.header ≡ p.found.header = ap (λ (x : Standing). x.header) told in
+    let network : n.found.network ≡ p.found.network = ap (λ (x : Standing). x.network) told in
+    let version : n.found.version ≡ p.found.version = ap (λ (x : Standing). x.version) told in (
       λ works. c.self.invariant.0 (sym e.broken ∙ works),
       λ came.
           let held = c.self.invariant.1 came in (

@@ -13,7 +13,7 @@ invariant_of-self g c =
     let commands = c.args.groups.now in
     let before = c.self.inside.in_flight.groups in
     let after = c.after-self-inside.result.groups in
-    let worked = worked_at_commit result p.broken p.version p.unchecked p.header.journal_pages p.network commands e.refused in
+    let worked = worked_at_commit result p.broken p.found.version p.found.unchecked p.found.header.journal_pages p.found.network commands e.refused in
     let are : AreInFlight result failed commands before after = (c.has_failed-failed.ensures, c.after-self-inside.ensures) in (
       λ works. in_flight_still result failed n commands before after are e.tells.breaks works ∙ c.self.invariant.0 (worked_before result p n e.same e.tells.breaks worked works),
       λ came.
@@ -37,7 +37,7 @@ pub returns-clause-durable : goal.returns-clause-durable
 returns-clause-durable g c = rw (← c.self.view_is) (λ came.
     let held = c.self.invariant.1 came in
     let p = c.self.inside.pages in
-    at_ok_with _ c.commit_groups-made.result (worked_at_commit c.commit_groups-made.result p.broken p.version p.unchecked p.header.journal_pages p.network c.args.groups.now c.commit_groups-made.ensures.refused)
+    at_ok_with _ c.commit_groups-made.result (worked_at_commit c.commit_groups-made.result p.broken p.found.version p.found.unchecked p.found.header.journal_pages p.found.network c.args.groups.now c.commit_groups-made.ensures.refused)
     (λ works. c.commit_groups-made.ensures.durable held.0 (held.1 works).1))
 
 pub returns-clause-same : goal.returns-clause-same

@@ -10,7 +10,7 @@ returns-clause-honest g c = rw (← c.self.view_is) (λ came. (c.self.invariant.
 pub returns-clause-room : goal.returns-clause-room
 returns-clause-room g c =
     let n = c.self.inside.pages.numbers in
-    rw (← c.self.view_is) (record { version_to = n.version_to; unchecked_to = n.unchecked_to; checkpoint_pages_to = few_pages c.self.inside.pages.header n.header.room_to })
+    rw (← c.self.view_is) (record { version_to = n.version_to; unchecked_to = n.unchecked_to; checkpoint_pages_to = few_pages c.self.inside.pages.found.header n.header.room_to })
 
 pub returns-clause-only : goal.returns-clause-only
 returns-clause-only g c = rw (← c.self.view_is) (λ honest works. (c.self.inside.pages.rests works honest).0)
@@ -20,7 +20,7 @@ returns-clause-stands g c = rw (← c.self.view_is) (λ came works. durable_of c
 
 pub returns-clause-checkpoint_pages : goal.returns-clause-checkpoint_pages
 returns-clause-checkpoint_pages g c =
-    rw (← c.self.view_is) (λ came works. pages_of_header c.self.inside.pages.header c.self.inside.pages.network (net_of_header (g.D.Disk.content c.self.inside.pages.disk) (told_by c.self.inside.pages) ((c.self.invariant.1 came).1 works).1.0))
+    rw (← c.self.view_is) (λ came works. pages_of_header c.self.inside.pages.found.header c.self.inside.pages.found.network (net_of_header (g.D.Disk.content c.self.inside.pages.disk) (told_by c.self.inside.pages) ((c.self.invariant.1 came).1 works).1.0))
 
 pub returns-clause-left : goal.returns-clause-left
 returns-clause-left g c = rw (← c.self.view_is) (λ came. let held = c.self.invariant.1 came in left_always c.self.inside.pages c.self.inside.in_flight.groups held.1 held.2)

@@ -10,8 +10,7 @@ use rows::View;
 use std::sync::Arc;
 
 impl<D: Disk> Keeper<D> {
-    /// The versions up to this one are durable. If the keeper's store came tidy, on a disk that keeps the disk model, the disk holds them, whatever was
-    /// called since. That is a fact of the keeper, so whoever shares one under a lock needs no premise.
+    /// The versions up to this one are durable, as `Ledger::durable` says. That is a fact of the keeper, so whoever shares one under a lock needs no premise.
     pub fn durable(&self) -> u64
         ensures version { result ≡ self.now.machine.durable }
         ensures honest { CameTidy D.honest D.content self.now.given → D.honest self.now.disk }

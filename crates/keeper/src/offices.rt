@@ -88,15 +88,11 @@ impl<D: Disk> Keeper<D> {
         self.ledger.opened()
     }
 
-    /// Accepts the group as `submit_group` does, and writes it into the desk's history: both get it, or neither.
-    ///
-    /// It is refused as `submit_group` is; and after that with 61, if the history has no room for the group.
+    /// Accepts the group and writes it into the desk's history, as `Ledger::submit_into` does: both get it, or neither.
     pub fn submit_into(&mut self, log: &mut History, group: Group) -> Result<Ticket, Refusal>
         ensures accepted { IfOk result (λ ticket. Submits self.old.machine group (Ok ticket) self.new.machine) }
         ensures refused { IfErr result (λ refusal. refusal ≢ closed → Submits self.old.machine group (Err refusal) self.new.machine) }
-        // 61 comes only if nothing else refuses the group.
         ensures order { IfErr result (λ refusal. refusal ≡ closed → refusal_of_submit self.old.machine group ≡ None) }
-        // It does not come if the history has room, as each desk's history does.
         ensures room { length log.old.groups < 2 ^ 62 → IfErr result (λ refusal. Submits self.old.machine group (Err refusal) self.new.machine) }
         ensures same { OnErr result (self.new ≡ self.old) }
         ensures written { OnOk result (log.new ≡ record log.old { groups = log.old.groups ++ group ∷ [] }) }

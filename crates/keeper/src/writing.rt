@@ -16,17 +16,7 @@ use roadnet::{Command, Group, Refusal};
 use store::Part;
 
 impl<D: Disk> Keeper<D> {
-    /// Accepts the group with the next number. It is then pending, and a stop may take it back until a flush has made it durable.
-    ///
-    /// It is refused, in this order, if the store is broken (45), if the life would exceed 16,777,216 commands (62), if the version would exceed 2^48 (28),
-    /// if more than 4,096 commands would be pending (50), or with the refusal of its first command that is not admitted after the accepted groups and the
-    /// commands before it (20 to 27, 29); then for lack of memory (11).
-    ///
-    /// The outline of the accepted network is changed in place. Beside the group itself, and a copy of a group of two or more commands, this takes memory
-    /// for a copy of the landmarks if the group names one, and for new arcs.
-    ///
-    /// On a new store of `examples/six.gr`, the group of `Close { arc: 7 }` is accepted with number 1. The same group once more is `AlreadyClosed`, though
-    /// nothing is durable yet.
+    /// Accepts the group with the next number, and is refused, as `Ledger::submit_group` says.
     pub fn submit_group(&mut self, group: Group) -> Result<Ticket, Refusal>
         ensures step { Submits self.old.machine group result self.new.machine }
         ensures disk { self.new.disk ≡ self.old.disk }
@@ -58,14 +48,7 @@ impl<D: Disk> Keeper<D> {
         self.ledger.submit_copy(group)
     }
 
-    /// Makes the first pending groups durable as one page of the journal: as many groups as have at most 253 commands together, all of them or none,
-    /// whenever a stop comes. Returns the durable version.
-    ///
-    /// It is refused, in this order, if the store is broken (45), if nothing is pending (53), if the journal has no free page (44), or for lack of memory
-    /// (11), all before any call of the disk; then if the disk fails (43), after which the store is broken. After any other refusal nothing has changed.
-    ///
-    /// On a new store with one accepted group it returns 1, and a second call is `NothingPending`. With 254 groups of one command it returns 253, and then
-    /// 254. With one group of two commands and one of 252 it returns 1, and then 2.
+    /// Makes the first pending groups durable, and is refused, as `Ledger::flush` says. Returns the durable version.
     pub fn flush(&mut self) -> Result<u64, Refusal>
         ensures step { Flushes self.old.machine result self.new.machine }
         ensures same { IfErr result (λ refusal. refusal ≢ device → self.new ≡ self.old) }
@@ -82,16 +65,7 @@ impl<D: Disk> Keeper<D> {
         self.ledger.flush()
     }
 
-    /// A step of a checkpoint of the durable network, of at most this many pages, 1 to 64. Returns `Done` with the version that the checkpoint holds, or
-    /// `Going` if some of its pages are left. If no checkpoint is going, one begins, of the network that is durable then. If, besides, no page is
-    /// unchecked, nothing is done.
-    ///
-    /// It is refused if the store is broken (45); then for lack of memory (11) when a checkpoint would begin, before any call of the disk; then if the disk
-    /// fails (43), after which the store is broken. After any other refusal nothing has changed.
-    ///
-    /// If `examples/six.gr` has no room for more arcs, a slot has one page after its head: with version 1 durable a step returns `Done(1)`, and then no
-    /// page is unchecked. If it has three, a step of 1 page returns `Going`, and one of 64 after it `Done(1)`, even if version 2 has become durable in
-    /// between.
+    /// A step of a checkpoint of at most this many pages, 1 to 64, as `Ledger::checkpoint_step` says.
     pub fn checkpoint_step(&mut self, pages: u32) -> Result<Part, Refusal>
         requires some { 1 ≤ pages }
         requires few { pages ≤ 64 }
@@ -113,11 +87,7 @@ impl<D: Disk> Keeper<D> {
         self.ledger.checkpoint_step(pages)
     }
 
-    /// Makes steps of 64 pages until the checkpoint is done: the one that is going, or otherwise a new one. Returns the version that it holds.
-    ///
-    /// It is refused as a step is. After 45 and 11 nothing has changed.
-    ///
-    /// With versions 1 and 2 made durable by a flush each and no checkpoint going, it returns 2.
+    /// Makes steps of 64 pages until the checkpoint is done, as `Ledger::checkpoint` does. Returns the version that it holds.
     pub fn checkpoint(&mut self) -> Result<u64, Refusal>
         ensures does { Checkpoints self.old.machine result self.new.machine }
         ensures same { IfErr result (λ refusal. refusal ≢ device → self.new ≡ self.old) }

@@ -64,6 +64,10 @@ def length_of(line: str) -> Length:
     fields = line.split(" ")
     return int(fields[3]) if len(fields) > 3 else None
 
+def arc_of(line: str) -> Arc:
+    _, number, tail, head, length, state = line.split()
+    return Arc(int(number), int(tail), int(head), int(length), state == "open")
+
 class Session:
     """A session over a wire, which `start`, `lease` and `connect` make. Versions come first in what the queries give."""
 
@@ -217,12 +221,16 @@ class Session:
         version, [_, *lines] = self.view(f"nearest {source} {count}", seconds)
         return version, [(int(fields[2]), int(fields[3])) for fields in map(str.split, lines)]
 
+    def route(self, source: int, target: int, seconds: float | None = None) -> tuple[int, Length, list[Arc]]:
+        """A shortest walk: its length, and its arcs in order."""
+        version, [first, *lines] = self.view(f"route {source} {target}", seconds)
+        return version, length_of(first), [arc_of(line) for line in lines]
+
     # A look at the network.
 
     def arc(self, number: int, seconds: float | None = None) -> tuple[int, Arc]:
         version, [line] = self.view(f"arc {number}", seconds)
-        _, _, tail, head, length, state = line.split()
-        return version, Arc(number, int(tail), int(head), int(length), state == "open")
+        return version, arc_of(line)
 
     def arcs(self, tail: int, head: int, seconds: float | None = None) -> tuple[int, list[int]]:
         """The numbers of all arcs from the one node to the other."""
@@ -249,7 +257,7 @@ class Session:
         return self.number(f"until {version}", seconds=seconds)
 
     def suppose(self, commands: Iterable[str], seconds: float | None = None) -> int:
-        """Supposes a group on the version that it gives. Lengths, tables and what is near are answered so until `forget`."""
+        """Supposes a group on the version that it gives. Lengths, tables, routes and what is near are answered so until `forget`."""
         return self.number("suppose", *commands, "end", seconds=seconds)
 
     def forget(self, seconds: float | None = None) -> None:

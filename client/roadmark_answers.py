@@ -54,7 +54,7 @@ class Shape(enum.Enum):
     GROUP = "none, nor have the lines behind it, until `end` has one"
     LINE = "one"
     VIEW = "the version, and one"
-    LIST = "the version, one that ends with a count, and so many"
+    LIST = "the version, one that ends with a count, and so many; for a route also one alone, that no walk leads there"
     TABLE = "the version, and one for each source with each target"
 
 class Row(NamedTuple):
@@ -91,6 +91,7 @@ ANSWERS: Mapping[str, Row] = {
     "reach": Row(Shape.LIST, frozenset(["reach"]), "d", echoes=1, may_suppose=True),
     "reached": Row(Shape.LIST, frozenset(["reached"]), "d", echoes=1, may_suppose=True),
     "nearest": Row(Shape.LIST, frozenset(["nearest"]), "d", echoes=1, may_suppose=True),
+    "route": Row(Shape.LIST, frozenset(["route", "x"]), "a", echoes=2, may_suppose=True),
     "wait": Row(Shape.LINE, frozenset(["v"])),
     "until": Row(Shape.LINE, frozenset(["v"])),
     "state": Row(Shape.LINE, frozenset(["state"])),
@@ -111,6 +112,7 @@ SPELLINGS = {
     **{word: re.compile(f"{word} {NUMBER}") for word in ("ok", "no", "v", "s", "close", "landmarks", "closed", "copied", "suppose")},
     **{word: re.compile(f"{word} {NUMBER} {NUMBER}") for word in ("x", "reach", "reached", "nearest")},
     **{word: re.compile(f"{word} {NUMBER} {NUMBER} {NUMBER}") for word in ("d", "b")},
+    "route": re.compile(f"route {NUMBER} {NUMBER} {NUMBER} {NUMBER}"),
     "a": re.compile(f"a {NUMBER} {NUMBER} {NUMBER} {NUMBER} (open|closed)"),
     "arcs": re.compile(f"arcs {NUMBER} {NUMBER}( {NUMBER})*"),
     "state": re.compile("state( [a-z]+ [a-z0-9.]+)+"),
@@ -162,7 +164,7 @@ class Expected:
             self.version = int(fields[1])
         elif word == "unknown":
             self.unknown = fields[1]
-        elif self.row.shape is Shape.LIST:
+        elif self.row.shape is Shape.LIST and word != "x":
             self.left, self.are_items, self.next = int(fields[-1]), True, frozenset([self.row.item])
         elif self.row.shape is Shape.TABLE:
             self.left, self.are_items, self.next = self.pairs() - 1, True, self.row.words

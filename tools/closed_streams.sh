@@ -36,6 +36,7 @@ for stream in 0 1 2; do
   rm -f copied.store
   tries serve "$printed" "$stream" serve six.store
   tries once "$printed" "$stream" once six.gr 1 6
+  tries route "$printed" "$stream" route six.gr 1 6
   tries batch "$printed" "$stream" batch six.gr six.p2p
   tries reach "$printed" "$stream" reach six.gr 1
   tries rehearse "$printed" "$stream" rehearse six.gr six.script

@@ -17,7 +17,7 @@ compare() {
 
 # The options in a text, each with the name of its value; its flags; the arguments of a usage line.
 options() { grep -o -e '--[a-z]\+ <\?[A-Z]\+>\?' | tr -d '<>' | sort -u; }
-flags() { grep -o -e '--verbose' | sort -u; }
+flags() { grep -o -e '--verbose' -e '--routes' | sort -u; }
 arguments() { sed 's/\[[^]]*\]//g' | grep -o '\<[A-Z][A-Z0-9]*\>'; }
 
 # A part of the man page, without its fonts.

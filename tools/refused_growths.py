@@ -192,6 +192,7 @@ class Call:
 TEXTS = {"six.ss": "p aux sp ss 3/s 6/s 3/s 6", "six.p2p": "p aux sp p2p 2/q 1 6/q 6 1", "changes": "close 7/set 8 4"}
 CALLS = [
     Call("once GR 1 6", [], "v 0/d 1 6 15"),
+    Call("route GR 5 2", [], "v 0/route 5 2 0 1/a 7 5 2 0 open"),
     Call("batch GR", ["six.p2p"], "v 0/d 1 6 15/x 6 1"),
     Call("create STORE GR", ["six.ss"], "ok 0"),
     Call("ask STORE", ["six.p2p"], "v 0/d 1 6 15/x 6 1"),

@@ -20,7 +20,7 @@ ends() {
 }
 
 # 0: all is done, help was asked for, or commands and queries were refused
-for words in 'once six.gr 1 6' 'once six.gr 1 9' 'batch six.gr six.p2p' 'batch six.gr --from six.ss --to six.ss' 'reach six.gr 1 --within 10' 'reached six.gr 9' 'ask six.store --from six.ss --to six.ss' 'rehearse six.gr six.script' 'ask six.store six.p2p' 'check six.store' 'show six.store 7' 'show six.store 4 6' --help 'help serve' --version; do
+for words in 'once six.gr 1 6' 'once six.gr 1 9' 'route six.gr 1 6' 'route six.gr 1 9' 'batch six.gr six.p2p' 'batch six.gr --from six.ss --to six.ss' 'reach six.gr 1 --within 10' 'reached six.gr 9' 'ask six.store --from six.ss --to six.ss' 'rehearse six.gr six.script' 'ask six.store six.p2p' 'ask six.store six.p2p --routes' 'check six.store' 'show six.store 7' 'show six.store 4 6' --help 'help serve' --version; do
   ends 0 '' $words > out
 done
 ends 0 '' < six.txt > out

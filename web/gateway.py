@@ -1,5 +1,5 @@
 #!/usr/bin/python3 -B
-"""Serves a roadmark store over HTTP, by the pairs of named pipes of one `roadmark serve`: OSRM's `nearest` and `table`, isochrones, changes, suppositions, and a page.
+"""Serves a roadmark store over HTTP, by the pairs of named pipes of one `roadmark serve`: OSRM's `nearest`, `table` and `route`, isochrones, changes, suppositions, and a page.
 
     web/gateway.py FOLDER ASKING [--changing PAIRS --token FILE] [--port 5000] [--sessions 12] [--tiles URL]
 

@@ -13,7 +13,8 @@ from typing import NamedTuple
 import numpy
 from scipy.spatial import cKDTree
 
-from globe import RADIUS, NoMap
+from globe import RADIUS, NoMap, metres
+from roadmark import Arc
 
 HINT = struct.Struct(">II")
 
@@ -107,6 +108,14 @@ class Map:
     def line(self, arc: int) -> list[list[float]]:
         """All points of the arc, with its ends."""
         return [self.location(int(self.tails[arc - 1])), *self.row(arc)[2], self.location(int(self.heads[arc - 1]))]
+
+    def drawn(self, arc: Arc) -> tuple[list[list[float]], float]:
+        """All points of an arc as the server has it, with its ends, and its metres. One that was laid is on no map, and is a straight line."""
+        ends = [self.location(arc.tail), self.location(arc.head)]
+        if arc.number > len(self.tails):
+            return ends, round(float(metres(*ends[0], *ends[1])), 1)
+        _, length, between, _ = self.row(arc.number)
+        return [ends[0], *between, ends[1]], length
 
     def name(self, node: int) -> str:
         """The name of a road that leaves the node."""

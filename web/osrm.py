@@ -1,6 +1,6 @@
-"""OSRM's HTTP interface, version 1: its addresses, options, errors and answers, for the services `nearest` and `table`.
+"""OSRM's HTTP interface, version 1: its addresses, options, errors and answers, for the services `nearest`, `table` and `route`.
 
-A service is an entry of `SERVICES`: a function from a request to a question, whose `answer` is called in a turn. `route` needs routes, which roadmark doesn't tell yet; with these it is one entry more.
+A service is an entry of `SERVICES`: a function from a request to a question, whose `answer` is called in a turn.
 """
 import math
 import re
@@ -9,23 +9,24 @@ from dataclasses import dataclass, field
 from typing import Any, Protocol
 from urllib.parse import unquote_to_bytes
 
-from polyline import decode
+from polyline import decode, encode
 
 from globe import metres
 from maps import Bearing, Map, Place
 from pools import Turn
+from roadmark import Arc
 
-MOST_TABLE, MOST_NEAREST, MOST_COORDINATES = 100, 100, 500
+MOST_TABLE, MOST_ROUTE, MOST_NEAREST, MOST_COORDINATES = 100, 100, 100, 500
 NUMBER = r"[+-]?(?:\d{1,15}(?:\.\d{0,20})?|\.\d{1,20})(?:[eE][+-]?\d{1,3})?"
 COORDINATE = re.compile(rf"({NUMBER}),({NUMBER})")
 POLYLINE = re.compile(r"polyline(6?)\(([?-~]+)\)")
 
 
 class Wrong(Exception):
-    """A request that is answered by one of OSRM's codes, with status 400 unless said."""
+    """A request that is answered by one of OSRM's codes, with status 400 unless said, and the version in which that is so, if it is of one."""
 
-    def __init__(self, code: str, message: str, status: int = 400) -> None:
-        self.code, self.message, self.status = code, message, status
+    def __init__(self, code: str, message: str, status: int = 400, version: int | None = None) -> None:
+        self.code, self.message, self.status, self.version = code, message, status, version
         super().__init__(message)
 
 
@@ -300,9 +301,128 @@ class Table:
         return None if length is None else round(length / 10 * (self.factor if by_time else 1), 1)
 
 
-SERVICES: dict[str, Callable[[Map, str, str], Question]] = {"nearest": Nearest, "table": Table}
-# OSRM's services that this server knows by name alone.
-LATER = ("route",)
+def alternatives_of(text: str) -> int:
+    return truth(text) if text in ("true", "false") else whole(text)
+
+
+def route_annotations_of(text: str) -> set[str]:
+    wanted = set() if text == "false" else set(text.split(","))
+    if not wanted <= {"true", "nodes", "distance", "duration", "weight", "speed", "datasources"}:
+        raise ValueError(text)
+    return wanted
+
+
+ROUTE = {"alternatives": alternatives_of, "steps": truth, "geometries": one_of("polyline", "polyline6", "geojson"), "overview": one_of("simplified", "full", "false"),
+         "annotations": route_annotations_of, "continue_straight": one_of("default", "true", "false"), "waypoints": some(whole)}
+# What a route tells of its arcs in a network by time, and in one by distance, which has no times.
+OF_ARCS = {"time": {"nodes", "distance", "duration", "weight", "speed"}, "distance": {"nodes", "distance", "weight"}}
+
+
+@dataclass
+class Leg:
+    """A way from one place to another: its points, the OSM nodes of the network that it meets, and for each of its arcs its metres and its length in the network's tenths."""
+
+    points: list[list[float]]
+    nodes: list[int]
+    metres: list[float] = field(default_factory=list)
+    tenths: list[int] = field(default_factory=list)
+
+    def add(self, other: "Leg") -> None:
+        """Goes on by another, which begins where this one ends."""
+        self.points += other.points[1:]
+        self.nodes += other.nodes[1:]
+        self.metres += other.metres
+        self.tenths += other.tenths
+
+
+class Route:
+    """`route`: the shortest way from each coordinate to the next."""
+
+    needs_session = True
+
+    def __init__(self, places: Map, coordinates: str, query: str) -> None:
+        self.places = places
+        self.request, own = request_of(coordinates, query, ROUTE)
+        count = len(self.request.coordinates)
+        if count < 2:
+            raise Wrong("InvalidOptions", "Number of coordinates needs to be at least two.")
+        if count > MOST_ROUTE:
+            raise Wrong("TooBig", f"Number of entries {count} is higher than current maximum ({MOST_ROUTE})")
+        if own.get("steps"):
+            raise Wrong("NotImplemented", "This server tells no turns: steps=false alone is supported.")
+        if own.get("continue_straight") == "true":
+            raise Wrong("NotImplemented", "This network has no turns: continue_straight=true is not supported.")
+        self.ends = own.get("waypoints", list(range(count)))
+        if self.ends[0] != 0 or self.ends[-1] != count - 1 or self.ends != sorted(set(self.ends)):
+            raise Wrong("InvalidOptions", "Waypoints ascend from the first coordinate to the last.")
+        self.geometries, self.has_geometry = own.get("geometries", "polyline"), own.get("overview") != "false"
+        self.annotations = self.annotated(own.get("annotations", set()))
+        self.snapped = [snapped(places, self.request, index)[0] for index in range(count)]
+
+    def annotated(self, wanted: set[str]) -> set[str]:
+        known = OF_ARCS[self.places.by]
+        if not wanted <= known | {"true"}:
+            raise Wrong("NotImplemented", f"This network's lengths are by {self.places.by}: annotations are {', '.join(sorted(known))}.")
+        return known if "true" in wanted else wanted
+
+    def answer(self, turn: Turn | None) -> Reply:
+        assert turn is not None
+        version, ways = self.ways(turn)
+        if any(length is None for length, _ in ways):
+            raise Wrong("NoRoute", "Impossible route between points", version=version)
+        legs = [self.leg(place.node, arcs) for place, (_, arcs) in zip(self.snapped, ways)]
+        told = [self.joined(legs[begin:end]) for begin, end in zip(self.ends, self.ends[1:])]
+        whole_way = self.joined(legs)
+        route = {"legs": [self.told(leg) for leg in told], **self.sums(whole_way), "weight_name": ANNOTATION[self.places.by]}
+        if self.has_geometry:
+            route["geometry"] = self.geometry(whole_way.points)
+        body: dict[str, Any] = {"code": "Ok", "routes": [route]}
+        if not self.request.skip_waypoints:
+            body["waypoints"] = [waypoint(self.places, self.request, self.snapped[index]) for index in self.ends]
+        return Reply(version, body)
+
+    def ways(self, turn: Turn) -> tuple[int, list[tuple[int | None, list[Arc]]]]:
+        """The way from each place to the next, all in one version: while others change the network, those of earlier versions are asked for again."""
+        pairs = [(one.node, next_one.node) for one, next_one in zip(self.snapped, self.snapped[1:])]
+        answers = [turn.session.route(*pair, seconds=turn.left) for pair in pairs]
+        while len({version for version, *_ in answers}) > 1:
+            newest = max(version for version, *_ in answers)
+            answers = [answer if answer[0] == newest else turn.session.route(*pair, seconds=turn.left) for answer, pair in zip(answers, pairs)]
+        return answers[0][0], [(length, arcs) for _, length, arcs in answers]
+
+    def leg(self, node: int, arcs: list[Arc]) -> Leg:
+        leg = Leg([self.places.location(node)], [int(self.places.osm[node - 1])])
+        for arc in arcs:
+            points, length = self.places.drawn(arc)
+            leg.add(Leg(points, [0, int(self.places.osm[arc.head - 1])], [length], [arc.length]))
+        return leg
+
+    def joined(self, legs: list[Leg]) -> Leg:
+        way = Leg(legs[0].points[:1], legs[0].nodes[:1])
+        for leg in legs:
+            way.add(leg)
+        return way
+
+    def sums(self, way: Leg) -> dict[str, float]:
+        weight = round(sum(way.tenths) / 10, 1)
+        return {"distance": round(sum(way.metres), 1), "duration": weight, "weight": weight} if self.places.by == "time" else {"distance": weight, "weight": weight}
+
+    def told(self, leg: Leg) -> dict[str, Any]:
+        weights = [round(tenths / 10, 1) for tenths in leg.tenths]
+        by_time = self.places.by == "time"
+        speeds = [round(length / weight, 1) if weight else 0 for length, weight in zip(leg.metres, weights)]
+        values = {"nodes": leg.nodes, "distance": leg.metres if by_time else weights, "duration": weights, "weight": weights, "speed": speeds}
+        told = {"steps": [], "summary": "", **self.sums(leg)}
+        return {**told, "annotation": {name: values[name] for name in sorted(self.annotations)}} if self.annotations else told
+
+    def geometry(self, points: list[list[float]]) -> Any:
+        points = points if len(points) > 1 else points * 2
+        if self.geometries == "geojson":
+            return {"type": "LineString", "coordinates": points}
+        return encode(points, 6 if self.geometries == "polyline6" else 5, geojson=True)
+
+
+SERVICES: dict[str, Callable[[Map, str, str], Question]] = {"nearest": Nearest, "table": Table, "route": Route}
 
 
 def question_of(places: Map, path: str, query: str) -> Question:
@@ -311,8 +431,6 @@ def question_of(places: Map, path: str, query: str) -> Question:
     if len(parts) != 4 or not parts[3] or not re.fullmatch(r"v\d{1,9}", parts[1]) or not re.fullmatch(r"[\w-]{1,64}", parts[2], re.ASCII):
         raise Wrong("InvalidUrl", f"URL string malformed close to position {len(parts[0]) + 2}")
     service, version = parts[0], parts[1]
-    if service in LATER:
-        raise Wrong("NotImplemented", f"Service {service} needs routes, and this server tells lengths alone.")
     if service not in SERVICES:
         raise Wrong("InvalidService", f"Service {service[:64]} not found!")
     if version != "v1":

@@ -73,8 +73,12 @@ class Program(unittest.TestCase):
         self.assertEqual(session.reach(1, 10), (0, {1: 0, 2: 10, 3: 10, 5: 10}))
         self.assertEqual(session.reached(4, 2), (0, {2: 2, 3: 2, 4: 0, 5: 2}))
         self.assertEqual(session.nearest(1, 1), (0, [(3, 10)]))
+        self.assertEqual(session.route(5, 4), (0, 2, [Arc(7, 5, 2, 0, True), Arc(3, 2, 4, 2, True)]))
+        self.assertEqual(session.route(3, 3), (0, 0, []))
+        self.assertEqual(session.route(6, 1), (0, None, []))
         self.assertEqual(list(session.stream("table 1 2 1 6 4")), ["v 0", "d 1 6 15", "d 1 4 12"])
         self.refused(session, "dist 1 9", 24)
+        self.refused(session, "route 1 9", 24)
         self.refused(session, "from 1 6", 26)
         self.assertEqual(session.close(), 0)
 

@@ -15,7 +15,7 @@ from contextlib import contextmanager
 from unittest import mock
 
 import roadmark_wires
-from roadmark import Fault, Garbled, Late, Lost, Refused, Session, Unknown, OVER_A_LOG
+from roadmark import Arc, Fault, Garbled, Late, Lost, Refused, Session, Unknown, OVER_A_LOG
 from roadmark_wires import Wire
 
 # A step of a script: a line that must come, bytes to send, seconds to rest, or None: until the client has gone. At its end both pipes are closed.
@@ -157,11 +157,14 @@ class Scripts(unittest.TestCase):
             self.assertEqual(session.change("close 7", "day-1"), 5)
 
     def test_lengths(self) -> None:
-        with served(["dist 1 6", b"v 0\nd 1 6 18446744073709551614\n", "dist 6 1", b"v 0\nx 6 1\n", "table 2 1 1 6 4", b"v 0\nd 1 4 12\nx 6 4\n", "nearest 1 2", b"v 0\nnearest 1 1\nd 1 3 10\n"]) as session:
+        with served(["dist 1 6", b"v 0\nd 1 6 18446744073709551614\n", "dist 6 1", b"v 0\nx 6 1\n", "table 2 1 1 6 4", b"v 0\nd 1 4 12\nx 6 4\n", "nearest 1 2", b"v 0\nnearest 1 1\nd 1 3 10\n",
+                     "route 5 2", b"v 0\nroute 5 2 0 1\na 7 5 2 0 open\n", "route 6 1", b"v 0\nx 6 1\n"]) as session:
             self.assertEqual(session.distance(1, 6), (0, (1 << 64) - 2))
             self.assertEqual(session.distance(6, 1), (0, None))
             self.assertEqual(session.table([1, 6], [4]), (0, [[12], [None]]))
             self.assertEqual(session.nearest(1, 2), (0, [(3, 10)]))
+            self.assertEqual(session.route(5, 2), (0, 0, [Arc(7, 5, 2, 0, True)]))
+            self.assertEqual(session.route(6, 1), (0, None, []))
 
 class Ways(unittest.TestCase):
     def setUp(self) -> None:

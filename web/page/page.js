@@ -1,4 +1,4 @@
-// The page of web/gateway.py: a network, distances, isochrones, and arcs that are closed, in truth or as a supposition.
+// The page of web/gateway.py: a network, routes, isochrones, and arcs that are closed, in truth or as a supposition.
 "use strict";
 
 const $ = (name) => document.getElementById(name);
@@ -8,7 +8,7 @@ const ASIDE = 2.5;
 
 const map = L.map("map", { preferCanvas: true });
 const arcs = new Map();
-const layers = { arcs: L.layerGroup().addTo(map), area: L.layerGroup().addTo(map), ends: L.layerGroup().addTo(map) };
+const layers = { arcs: L.layerGroup().addTo(map), area: L.layerGroup().addTo(map), route: L.layerGroup().addTo(map), ends: L.layerGroup().addTo(map) };
 const state = { network: null, closed: new Set(), supposed: new Map(), ends: [], centre: null, version: null };
 // A later answer to the same question takes the place of an earlier one, whichever comes first.
 const turns = { distance: 0, area: 0, arcs: 0, followed: 0 };
@@ -21,7 +21,7 @@ function say(text) { $("message").textContent = text; }
 async function fetched(address, options) {
   const response = await fetch(address, options);
   const body = await response.json();
-  if (!response.ok) throw Object.assign(new Error(response.status === 503 ? `no answer now (${body.message})` : body.message), { again: response.status === 503 });
+  if (!response.ok) throw Object.assign(new Error(response.status === 503 ? `no answer now (${body.message})` : body.message), { again: response.status === 503, code: body.code });
   return body;
 }
 
@@ -95,13 +95,16 @@ async function toggled(arc) {
 
 async function tellDistance() {
   const turn = ++turns.distance;
-  if (state.ends.length < 2) return;
-  const annotation = state.network.by === "time" ? "duration" : "distance";
-  const told = await asked(`table/v1/${state.network.profile}/${state.ends.map(place).join(";")}?sources=0&destinations=1&annotations=${annotation}`);
+  if (state.ends.length < 2) return void layers.route.clearLayers();
+  const told = await asked(`route/v1/${state.network.profile}/${state.ends.map(place).join(";")}?geometries=geojson&overview=full`).catch((fault) => {
+    if (fault.code !== "NoRoute") throw fault;
+  });
   if (turn !== turns.distance) return;
-  const value = told[annotation + "s"][0][0];
-  $("distance").textContent = (value === null ? "There is no way." : amount(value)) + (state.supposed.size ? " (supposed)" : "");
-  drawEnds([told.sources[0].location, told.destinations[0].location]);
+  layers.route.clearLayers();
+  $("distance").textContent = (told ? amount(told.routes[0].weight) : "There is no way.") + (state.supposed.size ? " (supposed)" : "");
+  if (!told) return;
+  L.polyline(shifted(told.routes[0].geometry.coordinates), { color: "#1b5ec0", weight: 7, opacity: 0.5, interactive: false }).addTo(layers.route);
+  drawEnds(told.waypoints.map((waypoint) => waypoint.location));
 }
 
 function drawEnds(locations) {
@@ -139,6 +142,7 @@ map.on("click", (event) => {
   }
   followed();
 });
+map.on("zoomend", () => { if (layers.route.getLayers().length) followed(); });
 map.on("zoomend moveend", () => drawArcs().catch((fault) => say(fault.message)));
 $("within").addEventListener("change", followed);
 $("forget").addEventListener("click", () => { state.supposed.clear(); recolour(); followed(); });

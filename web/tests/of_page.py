@@ -111,6 +111,7 @@ class Pages:
         self.shows("Click where to.")
         self.page.click(*self.target)
         self.shows(self.told(self.value()))
+        true(self.page.script("return layers.route.getLayers()[0].getLatLngs().length") > 2, "the way is not drawn")
         self.page.shot("2-distance")
 
     def refused(self) -> None:

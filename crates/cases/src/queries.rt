@@ -5,7 +5,9 @@ use crate::outcomes::{put_outcome, width_of};
 use blocks::{Given, Head, NotingWriter};
 use dimacs::{Counted, parse_gr, parse_p2p};
 use printing::{CountedWriter, Done, Failed};
-use querytexts::{Reach, answer_by, answer_pairs, batch_text, once_text, reach_text, table_text};
+use querytexts::{
+    Reach, answer_by, answer_pairs, batch_text, once_text, reach_text, route_text, table_text,
+};
 use rehearsals::{joint_text, rehearse_text};
 use roadnet::Refusal;
 use rows::Searches;
@@ -37,6 +39,26 @@ fn once<T: Threads>(
     let source = given.head.number(1).unwrap_or(0);
     let target = given.head.number(2).unwrap_or(0);
     Ok(once_text(
+        rt,
+        alloc,
+        &mut Counted::new(&mut reader),
+        source,
+        target,
+        width_of(given.head),
+        &mut CountedWriter::new(writer),
+    ))
+}
+
+fn route<T: Threads>(
+    rt: &T,
+    alloc: Global,
+    given: Given<'_, '_>,
+    writer: &mut NotingWriter,
+) -> Came {
+    let mut reader = given.reader(alloc, 0)?;
+    let source = given.head.number(1).unwrap_or(0);
+    let target = given.head.number(2).unwrap_or(0);
+    Ok(route_text(
         rt,
         alloc,
         &mut Counted::new(&mut reader),
@@ -191,6 +213,7 @@ pub(crate) fn put_answers<T: Threads>(
     let mut writer = NotingWriter::new(alloc, given.turn.write);
     let outcome = match call {
         "once" => once(rt, alloc, given, &mut writer)?,
+        "route" => route(rt, alloc, given, &mut writer)?,
         "batch" => batch(rt, alloc, given, &mut writer)?,
         "table" => table(rt, alloc, given, &mut writer)?,
         "reach" | "reached" => reach(rt, alloc, given, &mut writer)?,

@@ -45,9 +45,10 @@ fn ask<T: Threads>(
     let mut reader = given.reader(alloc, 0)?;
     let mut pairs = Counted::new(&mut reader);
     let delta = width_of(given.head);
+    let routes = given.head.has("routes");
     let mut writer = CountedWriter::new(writer);
     Ok(
-        match ask_text(rt, alloc, disk, &mut pairs, delta, &mut writer) {
+        match ask_text(rt, alloc, disk, &mut pairs, routes, delta, &mut writer) {
             (Ok(_), disk) => (Ok(()), disk),
             (Err(failed), disk) => (Err(failed), disk),
         },

@@ -17,7 +17,7 @@ use std::thread::Threads;
 /// The options of the calls that make a store, and of those that ask one.
 const MAKING: &str = "journal= room= here keeping sent";
 
-const ASKING: &str = "delta= disk-takes= keeping sent";
+const ASKING: &str = "routes delta= disk-takes= keeping sent";
 
 /// The calls of the cases.
 pub(crate) const CALLS: &[Call] = &[
@@ -28,6 +28,7 @@ pub(crate) const CALLS: &[Call] = &[
     ("script", ""),
     ("gr-before-run", ""),
     ("once", "* * delta= sent"),
+    ("route", "* * delta= sent"),
     ("batch", "delta= sent"),
     ("table", "delta= sent"),
     ("joint", "delta= sent"),
@@ -201,9 +202,15 @@ impl<R: Threads + Copy> Made<R> {
         match given.head.word(0) {
             "gr" | "ss" | "p2p" | "commands" | "script" => put_text(alloc, given, out),
             "gr-before-run" => put_before_run(alloc, given, out),
-            "once" | "batch" | "table" | "reach" | "reached" | "pairs" | "joint" | "rehearse" => {
-                put_answers(&self.rt, alloc, given, out)
-            }
+            "once"
+            | "route"
+            | "batch"
+            | "table"
+            | "reach"
+            | "reached"
+            | "pairs"
+            | "joint"
+            | "rehearse" => { put_answers(&self.rt, alloc, given, out) }
             "create"
             | "copy"
             | "migrate"

@@ -24,4 +24,3 @@ pub mod Staying
 pub mod Taking
 pub mod Telling
 pub mod Thinning
-pub mod Turning

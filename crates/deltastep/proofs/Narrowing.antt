@@ -11,7 +11,9 @@ use Rattle.snapshot.specs.declared.legs.Part.TheVariants.{Light, Heavy}
 use Rattle.relax.specs.Values.{value_at, value_or}
 use Rattle.buckets.specs.Queue.{Entries}
 use Rattle.deltastep.specs.Search.{IsBetweenBuckets, IsFinal, IsNarrowedOf, IsRelaxed, IsRelaxedBut, Suits, Trip, ring_buckets, top_of}
-use Rattle.deltastep.proofs.Finishing.{RowOf-over}
+use Rattle.deltastep.specs.Reach.{IsBeyond, Knows}
+use Rattle.deltastep.proofs.Ending.{AreFinal-beyond}
+use Rattle.deltastep.proofs.Finishing.{IsFinal-over, RowOf-over, entry_of_final}
 
 pub IsNarrowed-self : (groups : Groups) → IsNarrowed groups groups
 IsNarrowed-self groups = record { nodes = refl; delta = omega arith; greatest = refl; legs = λ part u. refl }
@@ -64,6 +66,16 @@ module _ (wide narrow : Groups) (is : IsNarrowed wide narrow) where
 pub RowOf-narrowed : (net : Net) (groups : Groups) → IsNarrowedOf net groups → (source : ℕ) (t row : List (Option ℕ)) → 1 ≤ source → source ≤ groups.nodes → IsBetweenBuckets groups source t empty → t ≡ None ∷ row → RowOf net source row
 RowOf-narrowed net groups of source t row low high over is =
     RowOf-over net of.wide of.snapshot of.grouped source t row low (subst (λ (n : ℕ). source ≤ n) of.narrowed.nodes high) (IsBetweenBuckets-wide of.wide groups of.narrowed source t empty over) is
+
+-- a search that ends before what is queued knows all up to its end
+pub knows_narrowed : (net : Net) (groups : Groups) → IsNarrowedOf net groups → (source : ℕ) → 1 ≤ source → source ≤ groups.nodes → (t : List (Option ℕ)) (queue : Entries) → IsBetweenBuckets groups source t queue → (end : Option ℕ) → IsBeyond end queue → Knows net source end t
+knows_narrowed net groups of source low high t queue between end beyond =
+    let inside : source ≤ of.wide.nodes = subst (λ (n : ℕ). source ≤ n) of.narrowed.nodes high in
+    let wide : IsBetweenBuckets of.wide source t queue = IsBetweenBuckets-wide of.wide groups of.narrowed source t queue between in
+    record {
+      final = AreFinal-beyond net of.wide of.snapshot of.grouped source low inside t queue wide end beyond;
+      over = λ none target node. entry_of_final net of.wide of.snapshot of.grouped source t queue target low inside wide (IsFinal-over of.wide t queue target (subst (λ (e : Option ℕ). IsBeyond e queue) none beyond));
+    }
 
 -- ---- a frontier in which all buckets fit
 

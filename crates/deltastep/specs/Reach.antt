@@ -5,6 +5,7 @@
 --     nearer_first a b                      the order by distance, and then by node
 --     AreNearest net source among count told     of these nodes the nearest to the source, as many as the count
 --     AreFinal net source end values        up to the end the values are the distances from the source
+--     IsKnownTo net source target values    .. up to the target
 use Rattle.std.specs.Prelude.{◌≡◌, ℕ, ◌+◌, ◌≤◌, ◌<◌, ◌⊎◌, nat_le, min, Bool, true, false, List, map, length, count_by, All, Contains, Option, None, Some, IfSome, MatchOption}
 use Rattle.std.specs.List.Sorted.{IsStrictlyIncreasing, IsStrictlySortedBy}
 use Rattle.std.specs.Ordering.{nat_cmp, ordering_then}
@@ -67,6 +68,15 @@ pub record AreFinal (net : Net) (source : ℕ) (end : Option ℕ) (values : List
   pub places : length values ≡ net.nodes + 1
   pub right : (u d : ℕ) → value_at values u ≡ Some d → IsWithin end d → IsNode net u × Least net source u d
   pub each : (u d : ℕ) → IsNode net u → Least net source u d → IsWithin end d → value_at values u ≡ Some d
+
+-- up to the target's distance the values are the distances from the source, or no walk leads to the target, and it has no value
+abbrev pub IsKnownTo : Net → ℕ → ℕ → List (Option ℕ) → Type 0
+IsKnownTo net source target values = MatchOption (value_at values target) (NoWalk net source target) (λ far. AreFinal net source (Some far) values)
+
+-- what is known when a search ends: the values are final up to the end, and if there is none, each is the distance
+pub record Knows (net : Net) (source : ℕ) (end : Option ℕ) (values : List (Option ℕ)) : Type 0 where
+  pub final : AreFinal net source end values
+  pub over : end ≡ None → (target : ℕ) → IsNode net target → IsDistance net source target (value_at values target)
 
 -- all that is queued is beyond the end; where there is none, nothing is queued
 abbrev pub IsBeyond : Option ℕ → Entries → Type 0

@@ -11,7 +11,6 @@ use Rattle.std.specs.Prelude.{◌≡◌, ℕ, ◌+◌, ◌≤◌, ◌⊎◌, suc
 use Rattle.relax.specs.Values.{value_at}
 use Rattle.std.specs.FinMap as map
 use Rattle.buckets.specs.Queue.{Entries}
-use Rattle.roadnet.specs.declared.arcs.RoadArc.{RoadArc}
 use Rattle.roadnet.specs.Walks.{distance_at}
 use Rattle.snapshot.specs.Groups.{Groups, legs_of}
 use Rattle.snapshot.specs.declared.legs.Leg.{Leg}
@@ -91,7 +90,3 @@ AreTails back groups = (part : Part) (u : ℕ) (leg : Leg) → Contains (legs_of
 abbrev pub AreTailsLooked : Groups → Groups → List (Option ℕ) → List (Option ℕ) → Entries → ℕ → Type 0
 AreTailsLooked groups back row tentative queue w =
     value_at tentative w ≡ None → (y : ℕ) → distance_at row w ≡ Some y → (part : Part) → All (λ leg. IsLooked groups tentative queue leg.head) (legs_of back part w)
-
--- the arc the other way round, open and of length 0
-abbrev pub turned : RoadArc → RoadArc
-turned arc = record { tail = arc.head; head = arc.tail; length = 0; opened = true }

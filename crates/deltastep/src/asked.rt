@@ -5,7 +5,7 @@ ghost use Rattle.std.specs.Bool.{Decides};
 ghost use Rattle.roadnet.specs.Net.{Net};
 ghost use Rattle.snapshot.specs.Groups.{IsSnapshotOf};
 ghost use Rattle.deltastep.specs.declared.known.NodeDistance.{NodeDistance};
-ghost use Rattle.deltastep.specs.Reach.{AreFinal, IsBeyond};
+ghost use Rattle.deltastep.specs.Reach.{AreFinal, IsBeyond, Knows};
 ghost use Rattle.deltastep.specs.Search.{IsNarrowedOf, Suits, most_lists};
 ghost use Rattle.deltastep.specs.Stepping.{HasWidth, IsBetween, StaysBetween};
 
@@ -14,7 +14,7 @@ use crate::known::NodeDistance;
 use crate::search::Search;
 use crate::stepping::{narrower, ring_size};
 use crate::workspace::Workspace;
-use buckets::{BucketQueue, OrderedBuckets};
+use buckets::OrderedBuckets;
 use frontier::{Frontier, LazyRing, Queued};
 use relax::{Team, Tentative};
 use snapshot::Snapshot;
@@ -88,57 +88,87 @@ impl<F: Frontier> Search<F> {
     }
 }
 
-/// The answer around `source`, found with the given team and a frontier without values and queued nodes. Also the frontier as the search leaves it.
+/// The search for an answer around `source` with the given team and a frontier without values and queued nodes: up to which length the values are final,
+/// or all of them if there is no end. Also the frontier as the search leaves it.
 #[inline(always)]
-fn answer_by<F: Frontier + Drop, A: Asked, T: Team>(
+fn settled_by<F: Frontier + Drop, A: Asked, T: Team>(
     alloc: Global,
     snapshot: &Snapshot,
     source: u32,
     asked: &A,
     team: &T,
     frontier: F,
-) -> Result<(Vec<NodeDistance>, F), RowError>
+) -> Result<(Option<u64>, F), RowError>
     requires blank { F.tentative frontier ≡ replicate (snapshot.now.nodes + 1) None }
     requires source { (1 ≤ source) × (source ≤ snapshot.now.nodes) }
     requires asked { A.suits asked.now (snapshot.now.nodes + 1) }
     requires suits { Suits snapshot.now (F.entries frontier) (F.accepts frontier) (F.width frontier) (F.span frontier) }
-    ensures told { IfOk result (λ found. (net : Net) → IsNarrowedOf net snapshot.now → A.answers asked.now net source found.0.items) }
+    ensures places { IfOk result (λ over. length (F.tentative over.1) ≡ snapshot.now.nodes + 1) }
+    ensures knows { IfOk result (λ over. (net : Net) → IsNarrowedOf net snapshot.now → Knows net source over.0 (F.tentative over.1)) }
+    ensures enough { IfOk result (λ over. IfSome over.0 (λ e. A.suffices asked.now (F.tentative over.1) e)) }
 {
     let mut search = Search::begin(snapshot, source, frontier)?;
     let end = search.settle_for(alloc, snapshot, asked, team)?;
     let Search { frontier } = search;
-    let told = asked.answer(alloc, frontier.values(), end)?;
-    Ok((told, frontier))
+    Ok((end, frontier))
 }
 
-/// The answer around `source`, found with the given team, empty values and an empty queue. The values are kept for the next search.
-fn answer_with<Q: BucketQueue + Drop, A: Asked, T: Team>(
+/// The search for an answer around `source` with empty values, over a ring of so many lists, which the workspace gets. Also the values.
+fn values_over<A: Asked, T: Team>(
     alloc: Global,
     snapshot: &Snapshot,
     source: u32,
     asked: &A,
     team: &T,
     values: Tentative,
-    buckets: Q,
+    size: u32,
     workspace: &mut Workspace,
-) -> Result<Vec<NodeDistance>, RowError>
+) -> Result<(Option<u64>, Tentative), RowError>
     requires blank { values ≡ replicate (snapshot.now.nodes + 1) None }
     requires source { (1 ≤ source) × (source ≤ snapshot.now.nodes) }
     requires asked { A.suits asked.now (snapshot.now.nodes + 1) }
-    requires suits { Suits snapshot.now (Q.entries buckets) (Q.accepts buckets) (Q.width buckets) (Q.span buckets) }
-    ensures told { IfOk result (λ told. (net : Net) → IsNarrowedOf net snapshot.now → A.answers asked.now net source told.items) }
+    requires some { 1 ≤ size }
+    requires few { size ≤ most_lists }
+    ensures places { IfOk result (λ over. length over.1 ≡ snapshot.now.nodes + 1) }
+    ensures knows { IfOk result (λ over. (net : Net) → IsNarrowedOf net snapshot.now → Knows net source over.0 over.1) }
+    ensures enough { IfOk result (λ over. IfSome over.0 (λ e. A.suffices asked.now over.1 e)) }
 {
-    let frontier = Queued {
-        tentative: values,
-        buckets,
+    let ring = workspace.take_ring(alloc, snapshot.delta(), size)?;
+    let frontier = LazyRing::new(alloc, values, ring);
+    let (end, over) = settled_by(alloc, snapshot, source, asked, team, frontier)?;
+    let (values, ring) = over.into_parts();
+    workspace.keep_ring(ring, snapshot.nodes());
+    Ok((end, values))
+}
+
+/// The search for an answer around `source`, whatever the workspace holds: up to which length the values are final, or all of them if there is no end,
+/// and the values. The search uses the workspace's values and its queue, and leaves it a queue.
+pub(crate) fn values_for<A: Asked, T: Team>(
+    alloc: Global,
+    snapshot: &Snapshot,
+    source: u32,
+    asked: &A,
+    team: &T,
+    workspace: &mut Workspace,
+) -> Result<(Option<u64>, Tentative), RowError>
+    requires source { (1 ≤ source) × (source ≤ snapshot.now.nodes) }
+    requires asked { A.suits asked.now (snapshot.now.nodes + 1) }
+    ensures places { IfOk result (λ over. length over.1 ≡ snapshot.now.nodes + 1) }
+    ensures knows { IfOk result (λ over. (net : Net) → IsSnapshotOf net snapshot.now → Knows net source over.0 over.1) }
+    ensures enough { IfOk result (λ over. IfSome over.0 (λ e. A.suffices asked.now over.1 e)) }
+{
+    let values = workspace.take_values(alloc, snapshot.nodes())?;
+    let Some(size) = ring_size(snapshot) else {
+        let frontier = Queued {
+            tentative: values,
+            buckets: OrderedBuckets::new(alloc, snapshot.delta()),
+        };
+        let (end, over) = settled_by(alloc, snapshot, source, asked, team, frontier)?;
+        return Ok((end, over.tentative));
     };
-    let (told, over) = answer_by(alloc, snapshot, source, asked, team, frontier)?;
-    let Queued {
-        tentative,
-        buckets: _,
-    } = over;
-    workspace.keep_values(tentative);
-    Ok(told)
+    let narrow = snapshot.narrowed()?;
+    let inner = narrower(&narrow, snapshot);
+    values_over(alloc, inner, source, asked, team, values, size, workspace)
 }
 
 /// The answer around `source`, whatever the workspace holds: the search uses its values and its queue.
@@ -154,42 +184,8 @@ pub(crate) fn answer_in<A: Asked, T: Team>(
     requires asked { A.suits asked.now (snapshot.now.nodes + 1) }
     ensures told { IfOk result (λ told. (net : Net) → IsSnapshotOf net snapshot.now → A.answers asked.now net source told.items) }
 {
-    let values = workspace.take_values(alloc, snapshot.nodes())?;
-    let Some(size) = ring_size(snapshot) else {
-        let buckets = OrderedBuckets::new(alloc, snapshot.delta());
-        return answer_with(
-            alloc, snapshot, source, asked, team, values, buckets, workspace,
-        );
-    };
-    let narrow = snapshot.narrowed()?;
-    let inner = narrower(&narrow, snapshot);
-    answer_over(alloc, inner, source, asked, team, values, size, workspace)
-}
-
-/// The answer to what is asked around `source` in each network from whose snapshot this one is narrowed, with values of no node, over a ring of so
-/// many lists; the workspace gets what the search leaves.
-fn answer_over<A: Asked, T: Team>(
-    alloc: Global,
-    snapshot: &Snapshot,
-    source: u32,
-    asked: &A,
-    team: &T,
-    values: Tentative,
-    size: u32,
-    workspace: &mut Workspace,
-) -> Result<Vec<NodeDistance>, RowError>
-    requires blank { values ≡ replicate (snapshot.now.nodes + 1) None }
-    requires source { (1 ≤ source) × (source ≤ snapshot.now.nodes) }
-    requires asked { A.suits asked.now (snapshot.now.nodes + 1) }
-    requires some { 1 ≤ size }
-    requires few { size ≤ most_lists }
-    ensures told { IfOk result (λ told. (net : Net) → IsNarrowedOf net snapshot.now → A.answers asked.now net source told.items) }
-{
-    let ring = workspace.take_ring(alloc, snapshot.delta(), size)?;
-    let frontier = LazyRing::new(alloc, values, ring);
-    let (told, over) = answer_by(alloc, snapshot, source, asked, team, frontier)?;
-    let (values, ring) = over.into_parts();
+    let (end, values) = values_for(alloc, snapshot, source, asked, team, workspace)?;
+    let told = asked.answer(alloc, &values, end)?;
     workspace.keep_values(values);
-    workspace.keep_ring(ring, snapshot.nodes());
     Ok(told)
 }

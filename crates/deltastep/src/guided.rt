@@ -296,7 +296,7 @@ impl<Q: BucketQueue> KeyedSearch<Q> {
     }
 }
 
-/// The distance from `source` to `target`, with the given guide, empty values and an empty queue; and the values and the queue as the search leaves them.
+/// The values and the queue as a search from `source` leaves them once the value of `target` is final, with the given guide, empty values and an empty queue.
 #[inline(always)]
 fn guided_by<Q: BucketQueue + Drop, G: Guide>(
     alloc: Global,
@@ -306,7 +306,7 @@ fn guided_by<Q: BucketQueue + Drop, G: Guide>(
     guide: &G,
     values: Tentative,
     buckets: Q,
-) -> Result<(Option<u64>, Tentative, Q), RowError>
+) -> Result<(Tentative, Q), RowError>
     requires blank { values ≡ replicate (snapshot.now.nodes + 1) None }
     requires source { (1 ≤ source) × (source ≤ snapshot.now.nodes) }
     requires target { (1 ≤ target) × (target ≤ snapshot.now.nodes) }
@@ -316,12 +316,13 @@ fn guided_by<Q: BucketQueue + Drop, G: Guide>(
     requires first { Q.accepts buckets 0 }
     requires wide { 1 ≤ Q.width buckets }
     requires window { 1 ≤ Q.span buckets }
-    ensures distance { IfOk result (λ found. (net : Net) → IsSnapshotOf net snapshot.now → IsDistance net source target found.0) }
+    ensures places { IfOk result (λ over. length over.0 ≡ snapshot.now.nodes + 1) }
+    ensures distance { IfOk result (λ over. (net : Net) → IsSnapshotOf net snapshot.now → IsDistance net source target (value_at over.0 target)) }
 {
     let mut search = KeyedSearch::begin_guided(snapshot, source, values, buckets)?;
     search.settle_guided(alloc, snapshot, target, guide)?;
     let KeyedSearch { tentative, buckets } = search;
-    Ok((tentative.get(target), tentative, buckets))
+    Ok((tentative, buckets))
 }
 
 /// Takes out all that is still queued. If memory runs out, some of it may remain.
@@ -333,44 +334,43 @@ fn drain<Q: BucketQueue>(alloc: Global, queue: &mut Q) -> Result<(), RowError>
     Ok(())
 }
 
-/// The distance from `source` to `target`, as `distance_to_in` gives it, by a search that the guide leads to the target: nodes are settled in the order of
-/// their value plus the guide's bound. It uses the workspace in the same way, whatever that holds, except that its ring has narrower buckets and is left to
-/// the next such search. Its only error is lack of memory.
+/// The values of a search that the guide leads from `source` to `target`, and that ends once the value of `target` is final: its distance, or nothing if no
+/// walk leads there. Nodes are settled in the order of their value plus the guide's bound. Each other value is the length of some walk.
 ///
-/// If all bounds are 0, it settles what that search does, or one bucket less. In the network of `examples/six.gr`, from 1 to 4 it gives 12 with any guide,
-/// and from 6 to 1 nothing.
-pub fn distance_guided_in<G: Guide>(
+/// The search uses the workspace as `distance_to_in` does, whatever that holds, except that its ring has narrower buckets and is left to the next such search.
+/// The values are taken out of the workspace, and `keep_values` puts them back. Its only error is lack of memory.
+///
+/// If all bounds are 0, it settles what the search of `distance_to_in` does, or one bucket less. In the network of `examples/six.gr`, from 1 to 4 the value of
+/// 4 is 12 with any guide, and from 6 to 1 node 1 has none.
+pub fn values_guided_in<G: Guide>(
     alloc: Global,
     snapshot: &Snapshot,
     source: u32,
     target: u32,
     guide: &G,
     workspace: &mut Workspace,
-) -> Result<Option<u64>, RowError>
+) -> Result<Tentative, RowError>
     requires source { (1 ≤ source) × (source ≤ snapshot.now.nodes) }
     requires target { (1 ≤ target) × (target ≤ snapshot.now.nodes) }
     requires leads { G.target guide.now ≡ target }
     requires knows { G.knows guide.now snapshot.now }
-    ensures distance { IfOk result (λ distance. (net : Net) → IsSnapshotOf net snapshot.now → IsDistance net source target distance) }
+    ensures places { IfOk result (λ values. length values ≡ snapshot.now.nodes + 1) }
+    ensures distance { IfOk result (λ values. (net : Net) → IsSnapshotOf net snapshot.now → IsDistance net source target (value_at values target)) }
 {
     let values = workspace.take_values(alloc, snapshot.nodes())?;
     let narrow = snapshot.narrowed()?;
     let delta = width_of_keys(narrower(&narrow, snapshot));
     let Some(size) = ring_size(snapshot) else {
         let buckets = OrderedBuckets::new(alloc, delta);
-        let (distance, values, _buckets) = guided_by(
+        let (values, _buckets) = guided_by(
             alloc, snapshot, source, target, guide, values, buckets,
         )?;
-        workspace.keep_values(values);
-        return Ok(distance);
+        return Ok(values);
     };
     let queue = workspace.take_queue(alloc, delta, size)?;
-    let (distance, values, mut queue) = guided_by(
-        alloc, snapshot, source, target, guide, values, queue,
-    )?;
-    workspace.keep_values(values);
+    let (values, mut queue) = guided_by(alloc, snapshot, source, target, guide, values, queue)?;
     if drain(alloc, &mut queue).is_ok() {
         workspace.keep_queue(queue);
     }
-    Ok(distance)
+    Ok(values)
 }

@@ -19,7 +19,7 @@ pub struct NodeDistance {
 }
 
 /// What is known of the distances of nodes.
-pub(crate) trait Known {
+pub trait Known {
     /// The values, with an entry for each node at the place of its number.
     ghost values: { Self → List (Option ℕ) };
 

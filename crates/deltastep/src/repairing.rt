@@ -464,10 +464,10 @@ fn repaired<T: Team>(
 /// the search uses the workspace as that of `row_in` does.
 ///
 /// `before` and `snapshot` are the snapshots of the two networks, which have the same nodes. `changed` has each node that does not have the same legs in
-/// both, as `changed_nodes` gives them. For each leg of the new snapshot, `back` has one from its head to its tail, as `back_of` gives them. Nodes whose
-/// shortest walks may use a leg that is gone lose their distance, and so do the nodes that depend on these. Then the search continues from the nodes with a
-/// leg that leads to less than is known. Beside the copy of the row and one look at each node, it takes time only for what was lost and changed, with the
-/// legs around it. If an eighth of the nodes or more lose their distance, the row is made anew. Its only error is lack of memory.
+/// both, as `changed_nodes` gives them. For each leg of the new snapshot, `back` has one from its head to its tail. Nodes whose shortest walks may use a leg
+/// that is gone lose their distance, and so do the nodes that depend on these. Then the search continues from the nodes with a leg that leads to less than
+/// is known. Beside the copy of the row and one look at each node, it takes time only for what was lost and changed, with the legs around it. If an eighth
+/// of the nodes or more lose their distance, the row is made anew. Its only error is lack of memory.
 pub fn row_after<T: Team>(
     alloc: Global,
     snapshot: &Snapshot,

@@ -129,7 +129,7 @@ impl Workspace {
     }
 
     /// Keeps the values of a search for the next one, and removes them all.
-    pub(crate) fn keep_values(&mut self, values: Tentative)
+    pub fn keep_values(&mut self, values: Tentative)
         ensures { self.new.values ≡ Some (replicate (length values) None) }
     {
         let mut values = values;

@@ -11,11 +11,12 @@ use Rattle.roadnet.specs.Reversal.{reversed}
 use Rattle.roadnet.specs.Step.{after}
 use Rattle.roadnet.specs.Walks.{RowOf}
 use Rattle.snapshot.specs.Groups.{Groups, IsSnapshotOf}
+use Rattle.rows.specs.Backs.{LeadsBack}
 use Rattle.rows.specs.Views.{Viewed}
 use Rattle.history.specs.Origins.{Origin, Beginning}
 use Rattle.history.proofs.Beginnings.{prefix_whole}
 use Rattle.desk.specs.Readings.{IsViewAfter}
-use Rattle.desk.specs.Shelves.{AreRowsIn, IsShelfOf, IsOfShelf, IsTurnedOf, IsAfter, IsAskedAt, IsRowAt, HasRow}
+use Rattle.desk.specs.Shelves.{AreRowsIn, IsShelfOf, IsOfShelf, IsBackOf, IsTurnedOf, IsAfter, IsAskedAt, IsRowAt, HasRow}
 use Rattle.desk.specs.declared.shelves.KeptRow.{KeptRow}
 
 -- a new shelf of a view has no row
@@ -75,6 +76,17 @@ new_turned origin None known view back at view_after turned = absurd at
 new_turned origin (Some front) known view back at view_after turned = λ net network.
     let same : view.network ≡ net = one_net view.network net (sym (ap (after origin.base) at ∙ view_after.network) ∙ network) in
     subst (λ (n : Net). IsSnapshotOf (reversed n) back) same turned
+
+-- so it is with the arcs that have their numbers
+pub back_found : (origin : Origin) (groups : Option Beginning) (known : List Group) (view : Viewed) (back : Groups) → IsBackOf origin groups back → IsAfter groups known → IsViewAfter origin known view → LeadsBack view.network back
+back_found origin None known view back leads at view_after = absurd at
+back_found origin (Some front) known view back leads at view_after = leads view.network (ap (after origin.base) at ∙ view_after.network)
+
+pub new_back : (origin : Origin) (groups : Option Beginning) (known : List Group) (view : Viewed) (back : Groups) → IsAfter groups known → IsViewAfter origin known view → LeadsBack view.network back → IsBackOf origin groups back
+new_back origin None known view back at view_after leads = absurd at
+new_back origin (Some front) known view back at view_after leads = λ net network.
+    let same : view.network ≡ net = one_net view.network net (sym (ap (after origin.base) at ∙ view_after.network) ∙ network) in
+    subst (λ (n : Net). LeadsBack n back) same leads
 
 -- without the row at a place it is a shelf still
 pub shelf_without : (origin : Origin) (groups : Option Beginning) (rows : List KeptRow) (place : ℕ) → place < length rows → IsShelfOf origin groups rows → IsShelfOf origin groups (take place rows ++ drop (place + 1) rows)

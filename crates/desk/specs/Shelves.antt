@@ -7,6 +7,7 @@ use Rattle.roadnet.specs.Reversal.{reversed}
 use Rattle.roadnet.specs.Step.{after}
 use Rattle.roadnet.specs.Walks.{RowOf}
 use Rattle.snapshot.specs.Groups.{Groups, IsSnapshotOf}
+use Rattle.rows.specs.Backs.{LeadsBack}
 use Rattle.history.specs.Origins.{Origin, Beginning}
 use Rattle.desk.specs.declared.shelves.KeptRow.{KeptRow}
 
@@ -35,6 +36,11 @@ IsOfShelf origin (Some front) kept = (net : Net) → after origin.base front.gro
 abbrev pub IsTurnedOf : Origin → Option Beginning → Groups → Type 0
 IsTurnedOf origin None back = ⊥
 IsTurnedOf origin (Some front) back = (net : Net) → after origin.base front.groups ≡ Some net → IsSnapshotOf (reversed net) back
+
+-- the arcs of the same network the other way round, with their numbers
+abbrev pub IsBackOf : Origin → Option Beginning → Groups → Type 0
+IsBackOf origin None back = ⊥
+IsBackOf origin (Some front) back = (net : Net) → after origin.base front.groups ≡ Some net → LeadsBack net back
 
 -- no rows of a later view are kept than that after these groups
 abbrev pub is_latest : Option Beginning → List Group → Bool

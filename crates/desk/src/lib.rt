@@ -25,6 +25,7 @@ mod shelves;
 mod states;
 mod threads;
 mod turns;
+mod walking;
 
 pub use bounds::{ServeRuntime, ServedDisk, ServedGate, ServedNaming};
 pub use desks::{Desk, Setup};

@@ -1,6 +1,8 @@
 ghost use Rattle.std.specs.Prelude.{◌≡◌, ◌⊎◌, OnErr, IfOk, IfErr};
+ghost use Rattle.std.specs.Option.{ForSome};
 ghost use mathlib.Core.List.{IsPrefix};
 ghost use Rattle.roadnet.specs.Net.{IsNetwork};
+ghost use Rattle.rows.specs.Backs.{LeadsBack};
 ghost use Rattle.rows.specs.declared.queries.Query.TheVariants.{From, Lower};
 ghost use Rattle.rows.specs.Replies.{are_nodes, IsRight};
 ghost use Rattle.published.specs.Showing.{IsUnseen};
@@ -11,6 +13,7 @@ use office::Naming;
 use published::Shown;
 use roadnet::{Network, Refusal};
 use rows::{Asker, Reply, View};
+use snapshot::Snapshot;
 use std::marker::{Model, PhantomData};
 use std::sync::Arc;
 
@@ -137,6 +140,13 @@ impl<N: Naming> Glance<N> {
         ensures { result ≡ self.now.view }
     {
         self.view.asker()
+    }
+
+    /// A share of all arcs of the network the other way round, with their numbers, if the view has them.
+    pub fn back(&self) -> Option<Arc<Snapshot>>
+        ensures { ForSome result (λ back. LeadsBack self.now.view.network back.value) }
+    {
+        self.view.back()
     }
 
     /// The reply to `From`, from the landmark's row. It takes no memory.

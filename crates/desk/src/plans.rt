@@ -12,11 +12,10 @@ use crate::gates::{Gate, NoGate};
 use crate::last::{UNKNOWN, Unbuilt};
 use crate::repairs::Before;
 use crate::row_workers::{RowJob, landmark_rows};
-use deltastep::back_of;
 use disk::Disk;
 use office::Work;
 use roadnet::{Network, OutOfMemory};
-use rows::{Row, View};
+use rows::{Row, View, numbered_back};
 use snapshot::{Snapshot, default_delta};
 use std::alloc::Global;
 use std::sync::Arc;
@@ -37,8 +36,8 @@ pub(crate) struct Plan {
     ghost few: { workers ≤ 64 },
 }
 
-/// All arcs of a network the other way round: those of an older view, if no arc was laid since; otherwise they are grouped anew. Nothing if no older view
-/// is given, or if there is no memory.
+/// All arcs of a network the other way round, with their numbers: those of an older view, if no arc was laid since; otherwise they are grouped anew. Nothing
+/// if no older view is given, or if there is no memory.
 fn back_after(alloc: Global, old: Option<&View>, network: &Network) -> Option<Arc<Snapshot>>
     requires { ForSome old (λ old. KeepsEnds old.now.network network.now) }
     ensures { ForSome result (λ back. LeadsBack network.now back.value) }
@@ -49,7 +48,7 @@ fn back_after(alloc: Global, old: Option<&View>, network: &Network) -> Option<Ar
             return Some(back);
         }
     }
-    match back_of(alloc, network) {
+    match numbered_back(alloc, network) {
         Ok(back) => Arc::new(alloc, back).ok(),
         Err(_) => None,
     }

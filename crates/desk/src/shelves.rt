@@ -3,6 +3,7 @@ ghost use Rattle.std.specs.Prelude.{◌≡◌, ◌<◌, [], length, true, None, 
 ghost use Rattle.roadnet.specs.Reversal.{reversed};
 ghost use Rattle.roadnet.specs.Walks.{RowOf};
 ghost use Rattle.snapshot.specs.Groups.{IsSnapshotOf};
+ghost use Rattle.rows.specs.Backs.{LeadsBack};
 ghost use Rattle.desk.specs.Readings.{IsViewAfter};
 ghost use Rattle.desk.specs.Shelves.{most_rows, is_latest, IsOfShelf, IsAfter, IsAskedAt, IsRowAt, HasRow};
 
@@ -66,8 +67,9 @@ fn position_of(asked: &[(u64, u32)], version: u64, source: u32) -> Option<usize>
 }
 
 /// Rows that queries made, all of one view: up to 64, of 4 or 8 bytes a node, for all callers. If the shelf is full, the row that was not used for the
-/// longest time gives way. It only has rows of the latest view that somebody asked, and the reversed arcs of that view, once somebody needed them. It also
-/// keeps what up to four searches left, and up to 64 sources that were asked once.
+/// longest time gives way. It only has rows of the latest view that somebody asked, and the reversed arcs of that view, once somebody needed them: the open
+/// ones, and for routes all of them with their numbers, if the view has none. It also keeps what up to four searches left, and up to 64 sources that were
+/// asked once.
 ///
 /// Contracts see it as the groups after which the view of the rows is shown, and the rows.
 #[derive(Drop)]
@@ -78,6 +80,8 @@ pub(crate) struct Shelf<N: Naming> {
     rows: Vec<KeptRow>,
     /// The open arcs of the view the other way round, grouped.
     turned: Option<Arc<Snapshot>>,
+    /// All arcs of the view the other way round, with their numbers, if the view has none.
+    back: Option<Arc<Snapshot>>,
     workspaces: Vec<Workspace>,
     /// The last versions and sources that were asked and had no row.
     asked: Vec<(u64, u32)>,
@@ -88,7 +92,7 @@ impl<N: Naming> Model for Shelf<N> {
     ghost use Rattle.std.specs.Prelude.{◌≤◌};
     ghost use Rattle.std.specs.Option.{ForSome};
     ghost use Rattle.std.specs.Vec.{vec_capacity, vec_len};
-    ghost use Rattle.desk.specs.Shelves.{most_rows, IsShelfOf, IsTurnedOf, Shelved};
+    ghost use Rattle.desk.specs.Shelves.{most_rows, IsBackOf, IsShelfOf, IsTurnedOf, Shelved};
 
     ghost Value = { Shelved };
 
@@ -98,7 +102,8 @@ impl<N: Naming> Model for Shelf<N> {
         IsShelfOf N.origin s.groups s.rows.items
         × (most_rows ≤ vec_capacity s.rows)
         × (vec_len s.rows ≤ most_rows)
-        × ForSome s.turned (λ back. IsTurnedOf N.origin s.groups back.value) };
+        × ForSome s.turned (λ back. IsTurnedOf N.origin s.groups back.value)
+        × ForSome s.back (λ back. IsBackOf N.origin s.groups back.value) };
 }
 
 impl<N: Naming> Shelf<N> {
@@ -117,6 +122,7 @@ impl<N: Naming> Shelf<N> {
             groups: None,
             rows,
             turned: None,
+            back: None,
             workspaces,
             asked,
             of: PhantomData,
@@ -137,6 +143,7 @@ impl<N: Naming> Shelf<N> {
         }
         self.rows.clear();
         self.turned = None;
+        self.back = None;
         self.groups = Some(groups.again());
         true
     }
@@ -180,6 +187,31 @@ impl<N: Naming> Shelf<N> {
     {
         if self.turn_to(glance) {
             self.turned = Some(back);
+        }
+    }
+
+    /// A share of all arcs of this view the other way round, with their numbers, if they are kept.
+    pub(crate) fn back(&mut self, glance: &Glance<N>) -> Option<Arc<Snapshot>>
+        ensures { IfSome result (λ back. LeadsBack glance.now.view.network back.value) }
+    {
+        if !self.turn_to(glance) {
+            return None;
+        }
+        let Some(back) = &self.back else {
+            return None;
+        };
+        let Ok(share) = Arc::try_clone(back) else {
+            return None;
+        };
+        Some(share)
+    }
+
+    /// Keeps all arcs of this view the other way round, with their numbers, unless it has rows of a later one.
+    pub(crate) fn keep_back(&mut self, glance: &Glance<N>, back: Arc<Snapshot>)
+        requires { LeadsBack glance.now.view.network back.value }
+    {
+        if self.turn_to(glance) {
+            self.back = Some(back);
         }
     }
 

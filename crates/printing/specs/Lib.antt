@@ -8,3 +8,4 @@ pub mod Chosen
 pub mod Looks
 pub mod Exports
 pub mod Nodes
+pub mod RouteLines

@@ -9,6 +9,7 @@ mod looks;
 mod nodes;
 mod printed;
 mod replied;
+mod route_lines;
 mod writer;
 
 pub use done::Done;
@@ -18,4 +19,5 @@ pub use looks::{Look, put_look};
 pub use nodes::{put_nearest, put_pairs, put_reach, put_reached};
 pub use printed::{put_answer, put_lines, put_number, put_numbered, put_refusal, put_version};
 pub use replied::{put_replies, put_reply};
+pub use route_lines::put_route;
 pub use writer::CountedWriter;

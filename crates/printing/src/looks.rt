@@ -64,7 +64,7 @@ fn put_arc<W: Write>(
 }
 
 /// The line of the arc of this number, or `no 20`
-fn put_arc_answer<W: Write>(
+pub(crate) fn put_arc_answer<W: Write>(
     out: &mut CountedWriter<'_, W>,
     network: &Network,
     number: u64,

@@ -12,7 +12,7 @@ use Rattle.words.specs.Pipes.{named, AreTold}
 use Rattle.words.specs.declared.words.PairTexts.{PairTexts}
 use Rattle.words.specs.declared.words.PairTexts.TheVariants.{Listed, Table}
 use Rattle.words.specs.declared.words.Job.{Job}
-use Rattle.words.specs.declared.words.Job.TheVariants.{Joint, Once, Batch, Reach, Reached, Rehearse, Create, Apply, Ask, Check, Serve, Migrate, Copy, Upgrade, Show, Export}
+use Rattle.words.specs.declared.words.Job.TheVariants.{Joint, Once, Route, Batch, Reach, Reached, Rehearse, Create, Apply, Ask, Check, Serve, Migrate, Copy, Upgrade, Show, Export}
 
 -- the failure is one of the call's first text
 abbrev pub is_of_first : Failed → Bool
@@ -47,6 +47,7 @@ pairs_name (Table sources targets) of_targets = if of_targets then targets.now e
 abbrev pub text_name : Job → Failed → List ℕ
 text_name (Joint delta) failed = if is_of_first failed then codes "net" else codes "script"
 text_name (Once network source target delta) failed = network.now
+text_name (Route network source target delta) failed = network.now
 text_name (Batch network pairs delta) failed = if is_of_first failed then network.now else pairs_name pairs (is_of_third failed)
 text_name (Reach network source within delta) failed = network.now
 text_name (Reached network target within delta) failed = network.now
@@ -54,7 +55,7 @@ text_name (Rehearse network script journal_pages room delta) failed = if is_of_f
 text_name (Create store network landmarks journal_pages room) failed =
     if is_of_first failed then network.now else if is_of_second failed then landmarks.now else store.now
 text_name (Apply store commands delta) failed = if is_of_first failed then commands.now else store.now
-text_name (Ask store pairs delta) failed = if is_of_third failed then store.now else pairs_name pairs (is_of_second failed)
+text_name (Ask store pairs routes delta) failed = if is_of_third failed then store.now else pairs_name pairs (is_of_second failed)
 text_name (Check store) failed = store.now
 text_name (Serve store pipes copies delta workers patience) failed =
     if is_of_second failed then folder_name store.now (option_map (λ folder. folder.now) copies) else pipe_name store.now pipes.items failed
@@ -68,7 +69,7 @@ text_name (Export store folder) failed = if is_of_second failed then folder.now 
 -- the store that a job opens, if it opens one
 abbrev pub opened_store : Job → Option (List ℕ)
 opened_store (Apply store commands delta) = Some store.now
-opened_store (Ask store pairs delta) = Some store.now
+opened_store (Ask store pairs routes delta) = Some store.now
 opened_store (Check store) = Some store.now
 opened_store (Serve store pipes copies delta workers patience) = Some store.now
 opened_store (Migrate old new room) = Some old.now

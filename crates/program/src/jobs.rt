@@ -11,7 +11,7 @@ use crate::files::{
 use dimacs::Counted;
 use printing::{CountedWriter, Done, Failed};
 use progress::Progress;
-use querytexts::{Reach, batch_text, once_text, reach_text, table_text};
+use querytexts::{Reach, batch_text, once_text, reach_text, route_text, table_text};
 use rehearsals::{joint_text, rehearse_text};
 use std::rt::Files;
 use std::thread::Threads;
@@ -52,6 +52,31 @@ pub fn once<R: AllocGlobal + Clock + Eprint + Files + Input + Print + Threads>(
     let mut gr = open_text(rt, progress, 0, network)?;
     let mut writer = standard_output(rt)?;
     once_text(
+        rt,
+        rt.alloc(),
+        &mut Counted::new(&mut gr),
+        source,
+        target,
+        delta,
+        &mut CountedWriter::new(&mut writer),
+    )
+}
+
+/// The arcs of a shortest walk in the network of a file.
+pub fn route<R: AllocGlobal + Clock + Eprint + Files + Input + Print + Threads>(
+    rt: &R,
+    progress: &Progress<'_, R>,
+    network: &str,
+    source: u64,
+    target: u64,
+    delta: Option<u32>,
+) -> Result<Done, Failed>
+    requires { ForSome delta IsWidth }
+    ensures { IfOk result (λ done. told_width done ≡ delta) }
+{
+    let mut gr = open_text(rt, progress, 0, network)?;
+    let mut writer = told_output(rt, progress)?;
+    route_text(
         rt,
         rt.alloc(),
         &mut Counted::new(&mut gr),

@@ -37,7 +37,7 @@ pub use filedisk::FileDisk;
 use names::{refused_file, text_name};
 pub use printing::{Done, Failed, Look, fault_line, status};
 use progress::Progress;
-pub use querytexts::{Reach, batch_text, once_text, reach_text, table_text};
+pub use querytexts::{Reach, batch_text, once_text, reach_text, route_text, table_text};
 pub use rehearsals::{joint_text, rehearse_text};
 use roadnet::Refusal;
 pub use running::run;

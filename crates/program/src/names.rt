@@ -46,6 +46,7 @@ fn first_name<'w>(job: &Job<'w>) -> &'w str
     match *job {
         Job::Joint { delta: _ } => "net",
         Job::Once { network, .. }
+        | Job::Route { network, .. }
         | Job::Batch { network, .. }
         | Job::Reach { network, .. }
         | Job::Reached { network, .. }
@@ -69,6 +70,7 @@ fn second_name<'w>(job: &Job<'w>) -> &'w str
     match *job {
         Job::Joint { delta: _ } => "script",
         Job::Once { network, .. }
+        | Job::Route { network, .. }
         | Job::Reach { network, .. }
         | Job::Reached { network, .. }
         | Job::Upgrade { network, .. } => network,
@@ -90,8 +92,10 @@ fn third_name<'w>(job: &Job<'w>) -> &'w str
 {
     match *job {
         Job::Joint { delta: _ } => "script",
-        Job::Once { network, .. } | Job::Reach { network, .. } | Job::Reached { network, .. } =>
-            network,
+        Job::Once { network, .. }
+        | Job::Route { network, .. }
+        | Job::Reach { network, .. }
+        | Job::Reached { network, .. } => network,
         Job::Batch { pairs, .. } => pairs_name(pairs, true),
         Job::Rehearse { script, .. } => script,
         Job::Migrate { new, .. } | Job::Upgrade { new, .. } => new,
@@ -115,8 +119,10 @@ fn other_name<'w>(job: &Job<'w>, failed: &Failed) -> &'w str
 {
     match *job {
         Job::Joint { delta: _ } => "script",
-        Job::Once { network, .. } | Job::Reach { network, .. } | Job::Reached { network, .. } =>
-            network,
+        Job::Once { network, .. }
+        | Job::Route { network, .. }
+        | Job::Reach { network, .. }
+        | Job::Reached { network, .. } => network,
         Job::Batch { pairs, .. } | Job::Ask { pairs, .. } => pairs_name(pairs, false),
         Job::Rehearse { script, .. } => script,
         Job::Serve {
@@ -163,6 +169,7 @@ fn opened_store<'w>(job: &Job<'w>) -> Option<&'w str>
         | Job::Export { store, .. } => Some(store),
         Job::Joint { .. }
         | Job::Once { .. }
+        | Job::Route { .. }
         | Job::Batch { .. }
         | Job::Reach { .. }
         | Job::Reached { .. }

@@ -8,7 +8,7 @@ ghost use Rattle.words.specs.Words.{IsJournal, IsWorkers, delta_of, journal_of, 
 ghost use Rattle.printing.specs.Widths.{told_width, told_workers};
 
 use crate::bounds::ServerRuntime;
-use crate::jobs::{batch, find_reached, joint, once, rehearse};
+use crate::jobs::{batch, find_reached, joint, once, rehearse, route};
 use crate::making_jobs::{copy, create, migrate, upgrade};
 use crate::serve_jobs::run_serve;
 use crate::store_jobs::{apply, ask, check, export, show};
@@ -41,6 +41,7 @@ fn kind_of(job: &Job<'_>) -> Kind
     match job {
         Job::Joint { .. }
         | Job::Once { .. }
+        | Job::Route { .. }
         | Job::Batch { .. }
         | Job::Reach { .. }
         | Job::Reached { .. }
@@ -84,6 +85,12 @@ fn run_on_texts<R: AllocGlobal + Clock + Eprint + Files<File = File> + Input + P
             target,
             delta,
         } => once(rt, progress, network, source, target, delta),
+        Job::Route {
+            network,
+            source,
+            target,
+            delta,
+        } => route(rt, progress, network, source, target, delta),
         Job::Batch {
             network,
             pairs,
@@ -169,8 +176,9 @@ fn run_on_store<R: AllocGlobal + Clock + Eprint + Files<File = File> + Input + P
         Job::Ask {
             store,
             pairs,
+            routes,
             delta,
-        } => ask(rt, progress, store, pairs, delta),
+        } => ask(rt, progress, store, pairs, routes, delta),
         Job::Check { store } => without_search(check(rt, progress, store)),
         Job::Show { store, look } => without_search(show(rt, progress, store, look)),
         Job::Export { store, folder } => without_search(export(rt, progress, store, folder)),

@@ -95,6 +95,7 @@ fn ask_listed<R: AllocGlobal + Clock + Eprint + Files<File = File> + Input + Pri
     progress: &Progress<'_, R>,
     store: &str,
     pairs: &str,
+    routes: bool,
     delta: Option<u32>,
 ) -> Result<Done, Failed>
     requires { ForSome delta IsWidth }
@@ -108,6 +109,7 @@ fn ask_listed<R: AllocGlobal + Clock + Eprint + Files<File = File> + Input + Pri
         rt.alloc(),
         disk,
         &mut Counted::new(&mut p2p),
+        routes,
         delta,
         &mut CountedWriter::new(&mut writer),
     );
@@ -152,13 +154,14 @@ pub fn ask<R: AllocGlobal + Clock + Eprint + Files<File = File> + Input + Print 
     progress: &Progress<'_, R>,
     store: &str,
     pairs: PairTexts<'_>,
+    routes: bool,
     delta: Option<u32>,
 ) -> Result<Done, Failed>
     requires { ForSome delta IsWidth }
     ensures { IfOk result (λ done. told_width done ≡ delta) }
 {
     match pairs {
-        PairTexts::Listed { pairs } => ask_listed(rt, progress, store, pairs, delta),
+        PairTexts::Listed { pairs } => ask_listed(rt, progress, store, pairs, routes, delta),
         PairTexts::Table { sources, targets } => {
             ask_table(rt, progress, store, sources, targets, delta)
         }

@@ -3,3 +3,4 @@ pub mod Unanswered
 pub mod Tabled
 pub mod Reached
 pub mod Refusing
+pub mod Routed

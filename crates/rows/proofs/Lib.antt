@@ -4,6 +4,7 @@ pub mod BoundLaws
 pub mod Bounded
 pub mod LandmarkRows
 pub mod Leaders
+pub mod Numbering
 pub mod Parts
 pub mod Placing
 pub mod Potentials

@@ -1,6 +1,7 @@
 //! Whoever asks a network: for a length, a row, or what is near a node.
 
-ghost use Rattle.std.specs.Prelude.{◌≡◌, true, IfOk, IfErr, IfSome, OnOk, MatchOption};
+ghost use Rattle.std.specs.Prelude.{◌≡◌, ◌+◌, length, true, IfOk, IfErr, IfSome, OnOk, MatchOption};
+ghost use Rattle.relax.specs.Values.{value_at};
 ghost use Rattle.deltastep.specs.Reach.{AreNearest, IsReach, IsReachTo};
 ghost use Rattle.roadnet.specs.Net.{IsNetwork, IsNode};
 ghost use Rattle.roadnet.specs.Reversal.{reversed};
@@ -18,7 +19,7 @@ use deltastep::{
     Distances, NodeDistance, RowError, Workspace, distance_to_in, nearest_in, nearest_of_row,
     reach_in, reach_of_row, reached_in, row_in,
 };
-use relax::Team;
+use relax::{Team, Tentative};
 use roadnet::{Network, OutOfMemory, Refusal};
 use snapshot::Snapshot;
 use std::alloc::Global;
@@ -100,14 +101,14 @@ impl<'a> Asker<'a> {
     }
 
     /// The network.
-    pub(crate) fn network(&self) -> &Network
+    pub fn network(&self) -> &Network
         ensures { result.now ≡ self.now.network }
     {
         self.network
     }
 
     /// The open arcs of the network, grouped.
-    pub(crate) fn groups(&self) -> &Snapshot
+    pub fn groups(&self) -> &Snapshot
         ensures { IsSnapshotOf self.now.network result.now }
     {
         self.groups
@@ -121,7 +122,7 @@ impl<'a> Asker<'a> {
     }
 
     /// The row of a node, if there is one: the given one, or that of a landmark of the view.
-    fn row_had<'b>(&'b self, node: u32, kept: Option<&'b Distances>) -> Option<&'b Distances>
+    pub fn row_had<'b>(&'b self, node: u32, kept: Option<&'b Distances>) -> Option<&'b Distances>
         requires { IfSome kept (λ row. RowOf self.now.network node row.now) }
         ensures { IfSome result (λ row. RowOf self.now.network node row.now) }
     {
@@ -188,6 +189,29 @@ impl<'a> Asker<'a> {
         match self.length(alloc, source, target, team, workspace) {
             Ok(Some(length)) => Ok(Reply::Length(length)),
             Ok(None) => Ok(Reply::NoWalk),
+            Err(RowError::OutOfMemory) => Err(OutOfMemory),
+        }
+    }
+
+    /// The values of a search that the rows of the view's landmarks lead from `source` to `target`, as `deltastep::values_guided_in` gives them; nothing if
+    /// there is no landmark. The only error is lack of memory.
+    pub fn led_values(
+        &self,
+        alloc: Global,
+        source: u32,
+        target: u32,
+        workspace: &mut Workspace,
+    ) -> Result<Option<Tentative>, OutOfMemory>
+        requires source { IsNode self.now.network source }
+        requires target { IsNode self.now.network target }
+        ensures places { IfOk result (λ led. IfSome led (λ values. length values ≡ self.now.network.nodes + 1)) }
+        ensures distance { IfOk result (λ led. IfSome led (λ values. MatchOption (value_at values target) (NoWalk self.now.network source target) (Least self.now.network source target))) }
+    {
+        let Some(view) = self.view() else {
+            return Ok(None);
+        };
+        match view.led_values(alloc, source, target, workspace) {
+            Ok(led) => Ok(led),
             Err(RowError::OutOfMemory) => Err(OutOfMemory),
         }
     }

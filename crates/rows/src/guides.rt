@@ -1,20 +1,21 @@
 //! Searches that the rows of landmarks lead.
 
-ghost use Rattle.std.specs.Prelude.{◌≡◌, ◌≤◌, ℕ, All, IfOk, IfSome, MatchOption, length, unwrap_or, map};
+ghost use Rattle.std.specs.Prelude.{◌≡◌, ◌+◌, ◌≤◌, ℕ, All, IfOk, IfSome, MatchOption, length, unwrap_or, map};
 ghost use Rattle.std.specs.Option.{ForSome};
 ghost use Rattle.roadnet.specs.Net.{IsNode};
 ghost use Rattle.roadnet.specs.Walks.{Least, NoWalk};
 ghost use Rattle.snapshot.specs.Groups.{Groups};
 ghost use Rattle.roadnet.specs.Walks.{distance_at};
+ghost use Rattle.relax.specs.Values.{value_at};
 ghost use Rattle.deltastep.specs.Guided.{IsLowerBound};
 ghost use Rattle.deltastep.specs.Words.{distance_of_short};
 ghost use Rattle.rows.specs.Guides.{AreAlike, AreOfSnapshot, PotentialAtTarget, PotentialIsConsistent, TellNoMore, leading, leads, potential_by, potential_of, potential_toward, told_toward};
 
 use crate::landmark_rows::Row;
 use crate::views::View;
-use deltastep::{Guide, RowError, Workspace, distance_guided_in, distance_to_in};
+use deltastep::{Guide, RowError, Workspace, distance_to_in, values_guided_in};
 use kept_rows::told_by;
-use relax::Team;
+use relax::{Team, Tentative};
 use std::alloc::Global;
 
 /// What is known of the potential of landmarks.
@@ -261,12 +262,34 @@ impl View {
         requires target { IsNode self.now.network target }
         ensures distance { IfOk result (λ distance. MatchOption distance (NoWalk self.now.network source target) (Least self.now.network source target)) }
     {
+        let Some(values) = self.led_values(alloc, source, target, workspace)? else {
+            return distance_to_in(alloc, self.snapshot(), source, target, team, workspace);
+        };
+        let distance = values.get(target);
+        workspace.keep_values(values);
+        Ok(distance)
+    }
+
+    /// The values of the search of `distance_in`, as `deltastep::values_guided_in` gives them, if there are landmarks.
+    pub(crate) fn led_values(
+        &self,
+        alloc: Global,
+        source: u32,
+        target: u32,
+        workspace: &mut Workspace,
+    ) -> Result<Option<Tentative>, RowError>
+        requires source { IsNode self.now.network source }
+        requires target { IsNode self.now.network target }
+        ensures places { IfOk result (λ led. IfSome led (λ values. length values ≡ self.now.network.nodes + 1)) }
+        ensures distance { IfOk result (λ led. IfSome led (λ values. MatchOption (value_at values target) (NoWalk self.now.network source target) (Least self.now.network source target))) }
+    {
         let snapshot = self.snapshot();
         let rows = self.rows();
         if rows.is_empty() {
-            return distance_to_in(alloc, snapshot, source, target, team, workspace);
+            return Ok(None);
         }
         let guide = Landmarks::new(alloc, rows, source, target);
-        distance_guided_in(alloc, snapshot, source, target, &guide, workspace)
+        let values = values_guided_in(alloc, snapshot, source, target, &guide, workspace)?;
+        Ok(Some(values))
     }
 }

@@ -4,6 +4,7 @@
 mod answers;
 mod askers;
 mod asking;
+mod backs;
 mod batches;
 mod bounds;
 mod cached;
@@ -26,6 +27,7 @@ mod views;
 
 pub use answers::{answer_plain, distance_in};
 pub use askers::Asker;
+pub use backs::numbered_back;
 pub use ends::Ends;
 pub use guides::{Landmarks, laws_of_potentials};
 pub use kept_rows::{DEFAULT_ROWS, RowCache};

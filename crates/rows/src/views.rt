@@ -25,14 +25,14 @@ use std::sync::Arc;
 /// A network at a version, prepared for queries: its open arcs are grouped, and there is a row for each of its landmarks.
 ///
 /// Beside the network it takes 8 bytes an open arc, 8 a node for the groups, and 4 or 8 a node for each landmark. If it was given the arcs the other way
-/// round, which views share, these take 8 bytes an arc and 8 a node.
+/// round with their numbers, which views share, these take 8 bytes an arc and 8 a node.
 #[derive(Drop)]
 pub struct View {
     version: u64,
     network: Network,
     snapshot: Snapshot,
     rows: Vec<Row>,
-    /// All arcs the other way round.
+    /// All arcs the other way round, with their numbers.
     back: Option<Arc<Snapshot>>,
 }
 
@@ -137,7 +137,7 @@ impl View {
         }
     }
 
-    /// The same view, with the arcs of its network the other way round, as `deltastep::back_of` makes them.
+    /// The same view, with the arcs of its network the other way round, as `numbered_back` makes them.
     pub fn with_back(self, back: Arc<Snapshot>) -> View
         requires { LeadsBack self.network back.value }
         ensures { result ≡ self }

@@ -18,7 +18,7 @@ use Rattle.session_lines.specs.declared.words.Bare.TheVariants.{End}
 use Rattle.session_lines.specs.declared.words.One.{One as OneWord}
 use Rattle.session_lines.specs.declared.words.One.TheVariants.{Common as one_common, Arc, Until}
 use Rattle.session_lines.specs.declared.words.Two.{Two as TwoWord}
-use Rattle.session_lines.specs.declared.words.Two.TheVariants.{Common as two_common, Arcs, Reach, Reached, Nearest}
+use Rattle.session_lines.specs.declared.words.Two.TheVariants.{Common as two_common, Arcs, Reach, Reached, Nearest, Route}
 use Rattle.session_lines.specs.declared.words.Word.TheVariants.{WithOne, WithTwo, Lay}
 use Rattle.session_lines.specs.declared.fields.Numbers.TheVariants.{One, Two, Three}
 use Rattle.session_lines.specs.declared.lines.Line.TheVariants.{Refused}
@@ -137,6 +137,7 @@ two_grouped Arcs u v a b d e bad = other_within (codes "arcs") (u ∷ v ∷ []) 
 two_grouped Reach u v a b d e bad = other_within (codes "reach") (u ∷ v ∷ []) refl refl
 two_grouped Reached u v a b d e bad = other_within (codes "reached") (u ∷ v ∷ []) refl refl
 two_grouped Nearest u v a b d e bad = other_within (codes "nearest") (u ∷ v ∷ []) refl refl
+two_grouped Route u v a b d e bad = other_within (codes "route") (u ∷ v ∷ []) refl refl
 
 pub one_range : (word : OneWord) (row : Row) (n : Numeral) → IsNumbers row (One (Some n)) → is_refused n ≡ true → IsLine (spelling (WithOne word) ∷ row) (Refused NumberRange (one_out_of_range word))
 one_range word row n are bad =

@@ -22,7 +22,7 @@ use Rattle.session_lines.specs.declared.words.Bare.TheVariants.{Wait, Quit, Begi
 use Rattle.session_lines.specs.declared.words.One.{One as OneWord}
 use Rattle.session_lines.specs.declared.words.One.TheVariants.{Common as one_common, Arc, Until}
 use Rattle.session_lines.specs.declared.words.Two.{Two as TwoWord}
-use Rattle.session_lines.specs.declared.words.Two.TheVariants.{Common as two_common, Arcs, Reach, Reached, Nearest}
+use Rattle.session_lines.specs.declared.words.Two.TheVariants.{Common as two_common, Arcs, Reach, Reached, Nearest, Route}
 use Rattle.session_lines.specs.declared.words.Word.TheVariants.{WithNone, WithOne, WithTwo, Lay}
 use Rattle.session_lines.specs.declared.lines.Line.{Line}
 use Rattle.session_lines.specs.declared.lines.Line.TheVariants.{Command as a_command}
@@ -65,6 +65,7 @@ long_field field long =
       other_bytes field (codes "reach") (omega (arith, long)),
       other_bytes field (codes "reached") (omega (arith, long)),
       other_bytes field (codes "nearest") (omega (arith, long)),
+      other_bytes field (codes "route") (omega (arith, long)),
       other_bytes field (codes "wait") (omega (arith, long)),
       other_bytes field (codes "quit") (omega (arith, long)),
       other_bytes field (codes "begin") (omega (arith, long)),
@@ -130,6 +131,7 @@ two_form Arcs = record { plain = λ numbers. refl; formed = λ numbers. refl; no
 two_form Reach = record { plain = λ numbers. refl; formed = λ numbers. refl; no_copy = λ numbers. refl; no_table = refl }
 two_form Reached = record { plain = λ numbers. refl; formed = λ numbers. refl; no_copy = λ numbers. refl; no_table = refl }
 two_form Nearest = record { plain = λ numbers. refl; formed = λ numbers. refl; no_copy = λ numbers. refl; no_table = refl }
+two_form Route = record { plain = λ numbers. refl; formed = λ numbers. refl; no_copy = λ numbers. refl; no_table = refl }
 
 pub lay_form : IsForm (spelling Lay) 3
 lay_form = record { plain = λ numbers. refl; formed = λ numbers. refl; no_copy = λ numbers. refl; no_table = refl }
@@ -162,6 +164,7 @@ two_made Arcs numbers = refl
 two_made Reach numbers = refl
 two_made Reached numbers = refl
 two_made Nearest numbers = refl
+two_made Route numbers = refl
 
 lay_made : (numbers : Row) → line_of (spelling Lay ∷ numbers) ≡ Some (a_command (lay_arc (size_at numbers 0) (size_at numbers 1) (size_at numbers 2)))
 lay_made numbers = refl
@@ -241,6 +244,7 @@ two_asks Arcs n m row asks = asks
 two_asks Reach n m row asks = asks
 two_asks Reached n m row asks = asks
 two_asks Nearest n m row asks = asks
+two_asks Route n m row asks = asks
 
 -- a word that stands alone
 pub bare_reads : (word : Bare) (row : Row) → IsNumbers row Nothing → IsLine (spelling (WithNone word) ∷ row) (bare_line word)

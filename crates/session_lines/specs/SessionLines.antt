@@ -1,4 +1,4 @@
--- The lines of a session: those of command texts, the queries of scripts, those that look at the network or at the desk, those about the nodes near one,
+-- The lines of a session: those of command texts, the queries of scripts, those that look at the network or at the desk, those about the nodes near one, `route`,
 -- `wait`, `until` and `quit`, `begin` and `end` about a group, `suppose` before one that is supposed, `forget`, `copy`, behind which a name stands, and `table`,
 -- behind which as many numbers stand as the first two of them say.
 use Rattle.std.specs.Prelude.{◌≡◌, ℕ, Bool, true, false, ◌||◌, List, [], ◌∷◌, ◌++◌, take, Option, None, Some, is_some, if◌then◌else◌}
@@ -12,7 +12,7 @@ use Rattle.dimacs.specs.Content.{size_at}
 use Rattle.dimacs.specs.Faults.{Row, is_empty, is_remark, item_fields}
 use Rattle.rows.specs.declared.queries.Query.TheVariants.{Dist, From, Lower}
 use Rattle.session_lines.specs.declared.lines.Line.{Line}
-use Rattle.session_lines.specs.declared.lines.Line.TheVariants.{Ignored, Command, Query, Look, Near, Table, Unkept, Copy, Wait, Until, State, Quit, Begin, End, Refused, Suppose, Forget}
+use Rattle.session_lines.specs.declared.lines.Line.TheVariants.{Ignored, Command, Query, Look, Near, Route, Table, Unkept, Copy, Wait, Until, State, Quit, Begin, End, Refused, Suppose, Forget}
 use Rattle.rows.specs.declared.nearby.Near.TheVariants.{Reach, Reached, Nearest}
 use Rattle.printing.specs.declared.looks.Look.TheVariants.{Arc, Between, Landmarks, Closed}
 use Rattle.session_lines.specs.declared.names.Name.{Name}
@@ -22,7 +22,7 @@ use Rattle.session_lines.specs.Tables.{is_table, sources_in, table_code, targets
 
 -- the words of a session behind which numbers stand, with how many follow them
 abbrev pub forms : List Form
-forms = commands ++ form (codes "dist") 2 ∷ form (codes "from") 2 ∷ form (codes "lower") 2 ∷ form (codes "arc") 1 ∷ form (codes "arcs") 2 ∷ form (codes "reach") 2 ∷ form (codes "reached") 2 ∷ form (codes "nearest") 2 ∷ form (codes "landmarks") 0 ∷ form (codes "closed") 0 ∷ form (codes "wait") 0 ∷ form (codes "until") 1 ∷ form (codes "state") 0 ∷ form (codes "quit") 0 ∷ form (codes "begin") 0 ∷ form (codes "end") 0 ∷ form (codes "suppose") 0 ∷ form (codes "forget") 0 ∷ []
+forms = commands ++ form (codes "dist") 2 ∷ form (codes "from") 2 ∷ form (codes "lower") 2 ∷ form (codes "arc") 1 ∷ form (codes "arcs") 2 ∷ form (codes "reach") 2 ∷ form (codes "reached") 2 ∷ form (codes "nearest") 2 ∷ form (codes "route") 2 ∷ form (codes "landmarks") 0 ∷ form (codes "closed") 0 ∷ form (codes "wait") 0 ∷ form (codes "until") 1 ∷ form (codes "state") 0 ∷ form (codes "quit") 0 ∷ form (codes "begin") 0 ∷ form (codes "end") 0 ∷ form (codes "suppose") 0 ∷ form (codes "forget") 0 ∷ []
 
 -- the bytes of a name
 abbrev pub name_of : Name → List ℕ
@@ -50,6 +50,7 @@ line_from word others = if bytes_eq word (codes "dist") then Some (Query (Dist (
     else (if bytes_eq word (codes "reach") then Some (Near (Reach (size_at others 0) (size_at others 1)))
     else (if bytes_eq word (codes "reached") then Some (Near (Reached (size_at others 0) (size_at others 1)))
     else (if bytes_eq word (codes "nearest") then Some (Near (Nearest (size_at others 0) (size_at others 1)))
+    else (if bytes_eq word (codes "route") then Some (Route (size_at others 0) (size_at others 1))
     else (if bytes_eq word (codes "landmarks") then Some (Look Landmarks)
     else (if bytes_eq word (codes "closed") then Some (Look Closed)
     else (if bytes_eq word (codes "wait") then Some Wait
@@ -60,7 +61,7 @@ line_from word others = if bytes_eq word (codes "dist") then Some (Query (Dist (
     else (if bytes_eq word (codes "end") then Some End
     else (if bytes_eq word (codes "suppose") then Some Suppose
     else (if bytes_eq word (codes "forget") then Some Forget
-    else option_map Command (command_from word others))))))))))))))))))
+    else option_map Command (command_from word others)))))))))))))))))))
 
 abbrev pub line_of : Row → Option Line
 line_of [] = None
@@ -86,6 +87,7 @@ IsLine row (Command command) = AsksFor row (Command command)
 IsLine row (Query query) = AsksFor row (Query query)
 IsLine row (Look look) = AsksFor row (Look look)
 IsLine row (Near near) = AsksFor row (Near near)
+IsLine row (Route source target) = AsksFor row (Route source target)
 IsLine row (Table table) = AsksForTable row (sources_of table) (targets_of table)
 IsLine row Unkept = (is_table row ≡ true) × BeginInOrder (item_fields row)
 IsLine row (Copy name) = copy_of row ≡ Some (name_of name)

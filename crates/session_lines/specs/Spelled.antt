@@ -7,7 +7,7 @@ use Rattle.session_lines.specs.declared.words.Bare.TheVariants.{Wait, Quit, Begi
 use Rattle.session_lines.specs.declared.words.One.{One}
 use Rattle.session_lines.specs.declared.words.One.TheVariants.{Common as one_common, Arc, Until}
 use Rattle.session_lines.specs.declared.words.Two.{Two}
-use Rattle.session_lines.specs.declared.words.Two.TheVariants.{Common as two_common, Arcs, Reach, Reached, Nearest}
+use Rattle.session_lines.specs.declared.words.Two.TheVariants.{Common as two_common, Arcs, Reach, Reached, Nearest, Route}
 use Rattle.session_lines.specs.declared.words.Word.{Word}
 use Rattle.session_lines.specs.declared.words.Word.TheVariants.{WithNone, WithOne, WithTwo, Lay}
 
@@ -35,16 +35,17 @@ one_spelling Until = codes "until"
 abbrev pub one_words : List One
 one_words = map one_common common_ones ++ Arc ∷ Until ∷ []
 
--- words with two: those of commands and queries, and four more
+-- words with two: those of commands and queries, and five more
 abbrev pub two_spelling : Two → List ℕ
 two_spelling (two_common word) = common_two word
 two_spelling Arcs = codes "arcs"
 two_spelling Reach = codes "reach"
 two_spelling Reached = codes "reached"
 two_spelling Nearest = codes "nearest"
+two_spelling Route = codes "route"
 
 abbrev pub two_words : List Two
-two_words = map two_common common_twos ++ Arcs ∷ Reach ∷ Reached ∷ Nearest ∷ []
+two_words = map two_common common_twos ++ Arcs ∷ Reach ∷ Reached ∷ Nearest ∷ Route ∷ []
 
 abbrev pub spelling : Word → List ℕ
 spelling (WithNone word) = bare_spelling word

@@ -1,7 +1,7 @@
 -- What the words of a session ask for.
 use Rattle.std.specs.Prelude.{ℕ}
 use Rattle.session_lines.specs.declared.lines.Line.{Line}
-use Rattle.session_lines.specs.declared.lines.Line.TheVariants.{Command as a_command, Query as a_query, Look as a_look, Near as a_near, Wait as a_wait, Until as an_until, State as a_state, Quit as a_quit, Begin as a_begin, End as an_end, Suppose as a_suppose, Forget as a_forget}
+use Rattle.session_lines.specs.declared.lines.Line.TheVariants.{Command as a_command, Query as a_query, Look as a_look, Near as a_near, Route as a_route, Wait as a_wait, Until as an_until, State as a_state, Quit as a_quit, Begin as a_begin, End as an_end, Suppose as a_suppose, Forget as a_forget}
 use Rattle.printing.specs.declared.looks.Look.TheVariants.{Arc as arc_of, Between as arcs_of, Landmarks as landmarks_of, Closed as closed_of}
 use Rattle.rows.specs.declared.nearby.Near.TheVariants.{Reach as reach_of, Reached as reached_of, Nearest as nearest_of}
 use Rattle.roadnet.specs.declared.commands.Command.TheVariants.{Set as set_arc}
@@ -11,7 +11,7 @@ use Rattle.session_lines.specs.declared.words.Bare.TheVariants.{Wait, Quit, Begi
 use Rattle.session_lines.specs.declared.words.One.{One}
 use Rattle.session_lines.specs.declared.words.One.TheVariants.{Common as one_common, Arc, Until}
 use Rattle.session_lines.specs.declared.words.Two.{Two}
-use Rattle.session_lines.specs.declared.words.Two.TheVariants.{Common as two_common, Arcs, Reach, Reached, Nearest}
+use Rattle.session_lines.specs.declared.words.Two.TheVariants.{Common as two_common, Arcs, Reach, Reached, Nearest, Route}
 use Rattle.dimacs.specs.declared.words.TwoNumbers.TheVariants.{Set, Dist, From, Lower}
 use Rattle.dimacs.specs.Spelling.{one_command}
 use Rattle.dimacs.specs.declared.fault.Code.{Code}
@@ -43,6 +43,7 @@ two_line Arcs n m = a_look (arcs_of n m)
 two_line Reach n m = a_near (reach_of n m)
 two_line Reached n m = a_near (reached_of n m)
 two_line Nearest n m = a_near (nearest_of n m)
+two_line Route n m = a_route n m
 
 -- the code, within a group, of a line of this word one of whose numbers is out of range
 abbrev pub one_out_of_range : One → Code

@@ -87,6 +87,10 @@ impl Draft {
             Line::Query(_) => self.faulty(Code::BadLine),
             Line::Look(_) => self.faulty(Code::BadLine),
             Line::Near(_) => self.faulty(Code::BadLine),
+            Line::Route {
+                source: _,
+                target: _,
+            } => self.faulty(Code::BadLine),
             Line::Table(_table) => self.faulty(Code::BadLine),
             Line::Unkept => self.faulty(Code::BadLine),
             Line::Copy(_) => self.faulty(Code::BadLine),

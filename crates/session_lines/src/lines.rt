@@ -36,6 +36,8 @@ pub enum Line {
     Look(Look),
     /// The nodes near a node.
     Near(Near),
+    /// The arcs of a shortest walk.
+    Route { source: u64, target: u64 },
     /// The lengths of all pairs of sources and targets.
     Table(Table),
     /// A table for whose numbers there was no memory.
@@ -186,6 +188,10 @@ fn two_line(word: Two, first: u64, second: u64) -> Line
             source: first,
             count: second,
         }),
+        Two::Route => Line::Route {
+            source: first,
+            target: second,
+        },
     }
 }
 

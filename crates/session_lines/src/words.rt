@@ -40,6 +40,7 @@ pub enum Two {
     Reach,
     Reached,
     Nearest,
+    Route,
 }
 
 impl One {
@@ -69,6 +70,7 @@ impl Two {
             Two::Reach => Code::BadLine,
             Two::Reached => Code::BadLine,
             Two::Nearest => Code::BadLine,
+            Two::Route => Code::BadLine,
         }
     }
 }
@@ -117,6 +119,9 @@ fn two_of_session(field: &[u8]) -> Option<Two>
     }
     if field == b"nearest".as_slice() {
         return Some(Two::Nearest);
+    }
+    if field == b"route".as_slice() {
+        return Some(Two::Route);
     }
     None
 }

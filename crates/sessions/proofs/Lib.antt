@@ -1,6 +1,7 @@
 mod Answered
 mod Based
 mod Said
+mod Routed
 mod Supposed
 mod Going
 pub mod Lasting

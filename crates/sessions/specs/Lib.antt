@@ -3,6 +3,7 @@ pub mod Stated
 pub mod Told
 pub mod Headings
 pub mod Nearby
+pub mod Routed
 pub mod Supposing
 pub mod Turns
 pub mod Saying

@@ -26,7 +26,7 @@ use Rattle.printing.specs.Printed.{version_line, refusal_line}
 use Rattle.printing.specs.Replied.{printed_reply}
 use Rattle.session_lines.specs.declared.asked_tables.Table.{Table as AskedTable}
 use Rattle.session_lines.specs.declared.lines.Line.{Line}
-use Rattle.session_lines.specs.declared.lines.Line.TheVariants.{Command as a_command, Query, Look as a_look, Near as a_near, Table as a_table, Unkept, Copy, Wait, Until, State, Quit, Begin, End, Refused, Suppose, Forget}
+use Rattle.session_lines.specs.declared.lines.Line.TheVariants.{Command as a_command, Query, Look as a_look, Near as a_near, Route as a_route, Table as a_table, Unkept, Copy, Wait, Until, State, Quit, Begin, End, Refused, Suppose, Forget}
 use Rattle.session_lines.specs.declared.reading.LastLine.{LastLine}
 use Rattle.session_lines.specs.Drafts.{Drafted, fault_of, no_draft, with_line}
 use Rattle.session_lines.specs.Listings.{sources_of, targets_of}
@@ -39,6 +39,7 @@ use Rattle.sessions.specs.declared.sessions.Purpose.{Purpose}
 use Rattle.sessions.specs.declared.sessions.Purpose.TheVariants.{ToCarryOut, ToSuppose}
 use Rattle.sessions.specs.Copying.{Copying}
 use Rattle.sessions.specs.Nearby.{IsNearAnswer, IsTableAnswer, IsToldAfter}
+use Rattle.sessions.specs.Routed.{IsRouteAnswer, IsRouteIn}
 use Rattle.sessions.specs.Stated.{state_or_refusal}
 use Rattle.sessions.specs.Supposing.{SupposesAfter, IsUnsupposed, IsNearIn, IsSupposedAnswer, IsTableIn, suppose_line, forgotten_line}
 use Rattle.sessions.specs.Told.{HaveReceipts, Settles, Replies, IsLooked, IsCopied, IsReached, ShowsLast, IsUnmet, IsUnshown, known_to}
@@ -115,7 +116,7 @@ IsEnd copying origin ToSuppose draft was is told durable =
 
 -- ---- what a line is told that stands in no group
 
--- what a query, the nodes near one and a table are told in a session that knows these groups: in what is supposed, if something is, and else in what is shown
+-- what a query, the nodes near one, a route and a table are told in a session that knows these groups: in what is supposed, if something is, and else in what is shown
 abbrev pub IsQueried : Origin → List Group → Option Supposition → Asked → List ℕ → Type 0
 IsQueried origin known None query told = (reply : Replied) × Replies origin known query reply × (told ≡ printed_reply reply)
 IsQueried origin known (Some supposed) query told = IsSupposedAnswer supposed query told
@@ -123,6 +124,10 @@ IsQueried origin known (Some supposed) query told = IsSupposedAnswer supposed qu
 abbrev pub IsFoundNear : Origin → List Group → Option Supposition → Near → List ℕ → Type 0
 IsFoundNear origin known None near told = IsToldAfter origin known (IsNearAnswer near) told
 IsFoundNear origin known (Some supposed) near told = IsNearIn supposed near told
+
+abbrev pub IsRouted : Origin → List Group → Option Supposition → ℕ → ℕ → List ℕ → Type 0
+IsRouted origin known None source target told = IsToldAfter origin known (IsRouteAnswer source target) told
+IsRouted origin known (Some supposed) source target told = IsRouteIn supposed source target told
 
 abbrev pub IsTabled : Origin → List Group → Option Supposition → AskedTable → List ℕ → Type 0
 IsTabled origin known None table told = IsToldAfter origin known (IsTableAnswer (pairs_of (sources_of table) (targets_of table))) told
@@ -137,6 +142,7 @@ IsForgotten (Some supposed) told = told ≡ forgotten_line
 abbrev pub IsTold : Copying → Origin → SessionState → List Group → Line → List ℕ → Type 0
 IsTold copying origin was known (Query query) told = IsQueried origin known was.supposed query told
 IsTold copying origin was known (a_near near) told = IsFoundNear origin known was.supposed near told
+IsTold copying origin was known (a_route source target) told = IsRouted origin known was.supposed source target told
 IsTold copying origin was known (a_table table) told = IsTabled origin known was.supposed table told
 IsTold copying origin was known (a_look look) told = IsLooked origin known look told
 IsTold copying origin was known (Copy name) told = IsCopied copying origin known (name_of name) told

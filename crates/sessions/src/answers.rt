@@ -5,7 +5,7 @@ ghost use Rattle.desk.specs.Turns.{IsUnserved};
 ghost use Rattle.printing.specs.Writers.{OnlyWriterFails};
 ghost use Rattle.sessions.specs.Saying.{PutsSo, Says, Stays};
 ghost use Rattle.sessions.specs.Told.{known_to, HasShown, IsUnshown, ShowsLast};
-ghost use Rattle.sessions.specs.Turns.{IsForgotten, IsFoundNear, IsQueried, IsTabled};
+ghost use Rattle.sessions.specs.Turns.{IsForgotten, IsFoundNear, IsQueried, IsRouted, IsTabled};
 
 use crate::around::{near_supposed, table_supposed};
 use crate::asking::{ask, copy_shown, look_shown};
@@ -17,6 +17,7 @@ use crate::sessions::{OpenGroup, Purpose, Session};
 use crate::supposing::query_supposed;
 use crate::telling::{tell_fault, tell_refusal, tell_reply, tell_state, tell_version};
 use crate::told_supposed::tell_forgotten;
+use crate::walking::{route_shown, route_supposed};
 use desk::{Naming, Near, Shown};
 use dimacs::Code;
 use printing::{CountedWriter, Failed};
@@ -89,6 +90,25 @@ impl<N: Naming> Session<N> {
         }
     }
 
+    /// Writes a route in what is supposed, if something is, and else in what is shown, and sends it out.
+    fn route<H: DeskCalls<N>, R: Threads, W: Write>(
+        &mut self,
+        rt: &R,
+        alloc: Global,
+        desk: &H,
+        source: u64,
+        target: u64,
+        out: &mut CountedWriter<'_, W>,
+    ) -> Result<(), Failed>
+        ensures told { PutsSo W.contents (IsRouted N.origin (known_to self.new.place) self.old.supposed source target) result out.old out.new }
+        ensures stays { Stays self.old self.new }
+    {
+        match &mut self.supposed {
+            Some(supposed) => route_supposed(rt, alloc, supposed, source, target, out),
+            None => route_shown(&mut self.place, desk, source, target, out),
+        }
+    }
+
     /// Writes the lengths of all pairs of a table in what is supposed, if something is, and else in what is shown, and sends them out.
     fn table<H: DeskCalls<N>, R: Threads, W: Write>(
         &mut self,
@@ -157,6 +177,7 @@ impl<N: Naming> Session<N> {
             Line::Query(query) => self.query(rt, alloc, desk, query, out),
             Line::Look(look) => look_shown(&mut self.place, desk, look, out),
             Line::Near(near) => self.near(rt, alloc, desk, near, out),
+            Line::Route { source, target } => self.route(rt, alloc, desk, source, target, out),
             Line::Table(table) => self.table(rt, alloc, desk, &table, out),
             Line::Unkept => tell_refusal(out, Refusal::OutOfMemory),
             Line::Copy(name) => copy_shown(&mut self.place, alloc, desk, copies, &name, out),
@@ -168,7 +189,7 @@ impl<N: Naming> Session<N> {
         }
     }
 
-    /// Writes the answer to a line, if it has one, and sends it out: a line within a group has none but at its end; queries, nodes near one and tables are answered in
+    /// Writes the answer to a line, if it has one, and sends it out: a line within a group has none but at its end; queries, nodes near one, routes and tables are answered in
     /// what is supposed, if something is. The one error is a failed write.
     pub(crate) fn answer<H: DeskCalls<N>, R: Threads, C: Copies, W: Write>(
         &mut self,

@@ -7,6 +7,7 @@ ghost use Rattle.rows.specs.declared.queries.Query.TheVariants.{Dist};
 ghost use Rattle.rows.specs.Replies.{IsRight};
 ghost use Rattle.rows.specs.Views.{AreRight};
 ghost use Rattle.rows.specs.Nearby.{are_pairs, node_of, IsNear, IsUntold};
+ghost use Rattle.routes.specs.RouteReplies.{IsRightRoute};
 ghost use Rattle.desk.specs.Readings.{IsNoReader};
 ghost use Rattle.desk.specs.States.{StoodSo};
 ghost use Rattle.desk.specs.Turns.{IsRefusedOn, IsUnreached, IsUnserved};
@@ -19,6 +20,7 @@ use desk::{
 use disk::Disk;
 use history::Front;
 use roadnet::{Group, OutOfMemory, Refusal};
+use routes::RouteReply;
 use rows::Reply;
 use std::sync::Wait;
 use std::thread::Threads;
@@ -40,6 +42,10 @@ pub(crate) trait DeskCalls<N: Naming> {
         ensures near { IfOk result (λ told. IsNear glance.now.view.network near told.items) }
         ensures node { OnOk result (is_node glance.now.view.network (node_of near) ≡ true) }
         ensures causes { IfErr result (IsUntold (is_node glance.now.view.network (node_of near))) };
+
+    /// The reply to a question for a route at a glance.
+    fn route(&self, glance: &Glance<N>, source: u64, target: u64) -> Result<RouteReply, OutOfMemory>
+        ensures { IfOk result (IsRightRoute glance.now.view.network source target) };
 
     /// The replies to pairs at a glance.
     fn table(&self, glance: &Glance<N>, pairs: &[(u64, u64)]) -> Result<Vec<Reply>, Refusal>
@@ -105,6 +111,15 @@ impl<N: Naming, D: Disk + Drop, G: Gate + Drop, R: Threads + Wait + Clock + Copy
 
     fn near(&self, glance: &Glance<N>, near: Near) -> Result<Vec<NodeDistance>, Refusal> {
         Handle::near(self, glance, near)
+    }
+
+    fn route(
+        &self,
+        glance: &Glance<N>,
+        source: u64,
+        target: u64,
+    ) -> Result<RouteReply, OutOfMemory> {
+        Handle::route(self, glance, source, target)
     }
 
     fn table(&self, glance: &Glance<N>, pairs: &[(u64, u64)]) -> Result<Vec<Reply>, Refusal> {

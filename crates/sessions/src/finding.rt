@@ -37,7 +37,10 @@ pub(crate) enum Heading {
 }
 
 /// The line that names what an answer refers to.
-fn put_heading<W: Write>(out: &mut CountedWriter<'_, W>, heading: Heading) -> Result<(), Failed>
+pub(crate) fn put_heading<W: Write>(
+    out: &mut CountedWriter<'_, W>,
+    heading: Heading,
+) -> Result<(), Failed>
     ensures { Puts W.contents (heading_line heading) result out.old out.new }
 {
     match heading {

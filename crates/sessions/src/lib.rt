@@ -19,6 +19,7 @@ mod stating;
 mod supposing;
 mod telling;
 mod told_supposed;
+mod walking;
 
 pub use answering::Answering;
 pub use copies::{AskingAlone, Copies, NoCopies};

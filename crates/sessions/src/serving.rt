@@ -42,13 +42,14 @@ pub struct Terms<'a, C> {
 /// - `dist S T`, `from X T` and `lower S T`: `v V` and an answer line, from a glance of that moment;
 /// - `arc K`, `arcs T H`, `landmarks` and `closed`: `v V` and lines about the shown network, from a glance that is held until they are written;
 /// - `reach S L`, `reached T L`, `nearest S K` and `table A B S.. T..`: `v V` and lines of lengths, all in the network of that version;
+/// - `route S T`: `v V` and the lines of a route, from a glance that is held until they are written;
 /// - `wait`: `v V` once the session's last accepted group is shown;
 /// - `until N`: `v V` once version N is shown;
 /// - `state`: the state of the desk, in a line;
 /// - `copy NAME`: `copied V` once a copy of the shown network is made under this name, of 1 to 64 letters, digits, `-` and `_`; `no 1` if no copies are
 /// made;
-/// - `suppose`, followed by the commands of a group and `end`: `suppose V`. From then on queries, nodes near a node and tables are answered in the network
-/// of version V with the group carried out, after `s V`;
+/// - `suppose`, followed by the commands of a group and `end`: `suppose V`. From then on queries, nodes near a node, routes and tables are answered in the
+/// network of version V with the group carried out, after `s V`;
 /// - `forget`: `forgotten`, and what was supposed is dropped; `no 1` if nothing was;
 /// - `begin` and `end`, which enclose the commands of a group: nothing before the end, and then `ok N` for the whole once it is durable, or the code of its
 /// first line that has a fault;

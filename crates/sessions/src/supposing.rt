@@ -39,6 +39,7 @@ fn suppose<N: Naming, H: DeskCalls<N>>(
         alloc,
         glance.version(),
         glance.network(),
+        glance.back(),
         glance.width(),
         group,
     )

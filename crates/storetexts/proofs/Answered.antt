@@ -1,5 +1,5 @@
 -- The pairs of a text, answered by a store that was opened.
-use Rattle.std.proofs.Common.{◌≡◌, ℕ, List, Option, None, Some, Result, Ok, Err, refl, subst, inl, inr}
+use Rattle.std.proofs.Common.{◌≡◌, ℕ, Bool, List, Option, None, Some, Result, Ok, Err, refl, subst, inl, inr}
 use Rattle.std.specs.Prelude.{IfSome, OnOk, IfErr}
 use Rattle.roadnet.specs.declared.refusals.Refusal.TheVariants.{Write, OutOfMemory}
 use Rattle.roadnet.specs.Net.{Net}
@@ -11,25 +11,25 @@ use Rattle.dimacs.specs.Texts.{Source, FaultOf, content_by, Reads}
 use Rattle.store.specs.State.{HasVersion}
 use Rattle.printing.specs.declared.failed.Failed.{Failed}
 use Rattle.printing.specs.declared.failed.Failed.TheVariants.{Text, Code}
-use Rattle.querytexts.specs.Batch.{AnswersAll}
+use Rattle.querytexts.specs.Route.{AnswersAs}
 use Rattle.querytexts.specs.Once.{IsUnanswered}
 use Rattle.storetexts.specs.Asked.{OfStore, GivesPairs, IsAsked, IsRefusedAsk}
 use Rattle.storetexts.specs.Refused.{IsOfStore, CountsDevice}
 
 module _ (Honest : Type 0) (file : List ℕ) (net : Net) (version nodes : ℕ) (stands : Honest → HasVersion file net version) (is : nodes ≡ net.nodes) where
-  asked_one : (text : List ℕ) (list : List Pair) (old new : Option (List ℕ)) → content_by (p2p_text nodes) (rows text) ≡ Ok list → AnswersAll net version list old new → IsAsked Honest file text old new
-  asked_one text list old new said answers = record {
+  asked_one : (routes : Bool) (text : List ℕ) (list : List Pair) (old new : Option (List ℕ)) → content_by (p2p_text nodes) (rows text) ≡ Ok list → AnswersAs routes net version list old new → IsAsked routes Honest file text old new
+  asked_one routes text list old new said answers = record {
     net = net;
     version = version;
     stands = stands;
     holds = record { list = list; pairs_are = subst (λ (n : ℕ). content_by (p2p_text n) (rows text) ≡ Ok list) is said; answers = answers };
   }
 
-  pub asked_of : {X : Type 0} (r : Result X Failed) (known : Option (List ℕ)) (source : Source) (list : List Pair) (old new : Option (List ℕ)) → IfSome known (λ text. Reads (p2p_text nodes) text source (Ok list)) → OnOk r (AnswersAll net version list old new)
-      → OnOk r (IfSome known (λ text. IsAsked Honest file text old new))
-  asked_of (Ok done) None source list old new said answers = tt
-  asked_of (Ok done) (Some text) source list old new said answers = asked_one text list old new said.0 answers
-  asked_of (Err failed) known source list old new said answers = tt
+  pub asked_of : {X : Type 0} (routes : Bool) (r : Result X Failed) (known : Option (List ℕ)) (source : Source) (list : List Pair) (old new : Option (List ℕ)) → IfSome known (λ text. Reads (p2p_text nodes) text source (Ok list)) → OnOk r (AnswersAs routes net version list old new)
+      → OnOk r (IfSome known (λ text. IsAsked routes Honest file text old new))
+  asked_of routes (Ok done) None source list old new said answers = tt
+  asked_of routes (Ok done) (Some text) source list old new said answers = asked_one routes text list old new said.0 answers
+  asked_of routes (Err failed) known source list old new said answers = tt
 
   fault_of : (text : List ℕ) (source : Source) (fault : Fault) → FaultOf (p2p_text nodes) text source fault → IsRefusedAsk Honest file text source (Text 0 fault)
   fault_of text source fault said = record { net = net; version = version; stands = stands; holds = subst (λ (n : ℕ). FaultOf (p2p_text n) text source fault) is said }

@@ -1,5 +1,5 @@
 -- What the pairs of a text, or those between the nodes of two texts, are answered with by a store, and for what they are refused.
-use Rattle.std.specs.Prelude.{◌≡◌, ◌⊎◌, ℕ, zero, suc, List, Option, Some, Ok, ⊤}
+use Rattle.std.specs.Prelude.{◌≡◌, ◌⊎◌, ℕ, Bool, zero, suc, List, Option, Some, Ok, ⊤}
 use Rattle.roadnet.specs.declared.refusals.Refusal.{Refusal}
 use Rattle.roadnet.specs.declared.refusals.Refusal.TheVariants.{Write}
 use Rattle.roadnet.specs.Net.{Net}
@@ -13,6 +13,7 @@ use Rattle.store.specs.Opening.{MayRefuseToOpen}
 use Rattle.printing.specs.declared.failed.Failed.{Failed}
 use Rattle.printing.specs.declared.failed.Failed.TheVariants.{Text, Code}
 use Rattle.querytexts.specs.Batch.{pairs_in, AnswersAll}
+use Rattle.querytexts.specs.Route.{AnswersAs}
 use Rattle.querytexts.specs.Table.{GivesTable, HasTargetFault}
 
 -- A store was opened, of this network at this version: where the disk keeps the disk model, its file stands for them. Of them this holds.
@@ -26,15 +27,15 @@ pub record OfStore (Honest : Type 0) (file : List ℕ) (Holds : Net → ℕ → 
 abbrev pub IsUnopened : Type 0 → List ℕ → Refusal → Type 0
 IsUnopened Honest file refusal = MayEndOpening refusal × (Honest → MayRefuseToOpen file refusal)
 
--- what is written are the lines of right answers to the pairs of the text, in this network at this version, and nothing else
-pub record AnswersText (text : List ℕ) (old new : Option (List ℕ)) (net : Net) (version : ℕ) : Type 0 where
+-- what is written are the lines of right answers to the pairs of the text, of routes or of lengths, in this network at this version, and nothing else
+pub record AnswersText (routes : Bool) (text : List ℕ) (old new : Option (List ℕ)) (net : Net) (version : ℕ) : Type 0 where
   pub list : List Pair
   pub pairs_are : pairs_in net text ≡ Ok list
-  pub answers : AnswersAll net version list old new
+  pub answers : AnswersAs routes net version list old new
 
 -- the same in the network and at the version of the store
-abbrev pub IsAsked : Type 0 → List ℕ → List ℕ → Option (List ℕ) → Option (List ℕ) → Type 0
-IsAsked Honest file text old new = OfStore Honest file (AnswersText text old new)
+abbrev pub IsAsked : Bool → Type 0 → List ℕ → List ℕ → Option (List ℕ) → Option (List ℕ) → Type 0
+IsAsked routes Honest file text old new = OfStore Honest file (AnswersText routes text old new)
 
 -- the text has no fault, judged by this network
 abbrev pub GivesPairs : List ℕ → Net → ℕ → Type 0

@@ -9,7 +9,7 @@ ghost use Rattle.printing.specs.Counting.{writer_of};
 ghost use Rattle.printing.specs.Failing.{CountsReads, LeavesUnwritten};
 ghost use Rattle.printing.specs.Widths.{told_width};
 ghost use Rattle.printing.specs.Writers.{KeepsWriter};
-ghost use Rattle.querytexts.specs.Batch.{AnswersAll};
+ghost use Rattle.querytexts.specs.Route.{AnswersAs};
 ghost use Rattle.querytexts.specs.Once.{Answers};
 ghost use Rattle.store.specs.Opening.{HeaderFits};
 ghost use Rattle.storetexts.specs.Asked.{IsAsked, IsRefusedAsk};
@@ -18,7 +18,8 @@ ghost use Rattle.storetexts.specs.Refused.{CountsDevice, IfNoMemory, IsOfStore};
 use dimacs::{Pair, Text, read_p2p};
 use disk::Disk;
 use printing::{CountedWriter, Done, Failed, of_text};
-use querytexts::answer_pairs;
+use querytexts::{answer_pairs, answer_routes};
+use roadnet::Network;
 use std::alloc::Global;
 use std::io::Write;
 use std::thread::Threads;
@@ -26,30 +27,46 @@ use store::{Store, open};
 
 const PAIRS: u8 = 0;
 
-/// Writes the version of the store and a right answer to each pair, and hands the disk back.
+/// Writes the network's version and a right answer to each pair: a route, or a length.
+fn answer_as<T: Threads, W: Write>(
+    rt: &T,
+    alloc: Global,
+    network: &Network,
+    version: u64,
+    routes: bool,
+    delta: Option<u32>,
+    pairs: &[Pair],
+    out: &mut CountedWriter<'_, W>,
+) -> Result<Done, Failed>
+    requires { ForSome delta IsWidth }
+    ensures answered { OnOk result (AnswersAs routes network.now version pairs.now (W.contents (writer_of out.old)) (W.contents (writer_of out.new))) }
+    ensures answers { Answers delta result out.old out.new }
+{
+    if routes {
+        answer_routes(rt, alloc, network, version, delta, pairs, out)
+    } else {
+        answer_pairs(rt, alloc, network, version, delta, pairs, out)
+    }
+}
+
+/// Writes the version of the store and a right answer to each pair, a route or a length, and hands the disk back.
 fn ask_opened<T: Threads, D: Disk, W: Write>(
     rt: &T,
     alloc: Global,
     store: Store<D>,
     pairs: &[Pair],
+    routes: bool,
     delta: Option<u32>,
     out: &mut CountedWriter<'_, W>,
 ) -> (Result<Done, Failed>, D)
     requires { ForSome delta IsWidth }
     ensures answered { OnOk result.0
-        (AnswersAll store.network store.version pairs.now (W.contents (writer_of out.old)) (W.contents (writer_of out.new))) }
+        (AnswersAs routes store.network store.version pairs.now (W.contents (writer_of out.old)) (W.contents (writer_of out.new))) }
     ensures answers { Answers delta result.0 out.old out.new }
     ensures disk { result.1 ≡ store.disk }
 {
-    let answered = answer_pairs(
-        rt,
-        alloc,
-        store.network(),
-        store.version(),
-        delta,
-        pairs,
-        out,
-    );
+    let (network, version) = (store.network(), store.version());
+    let answered = answer_as(rt, alloc, network, version, routes, delta, pairs, out);
     (answered, store.close())
 }
 
@@ -63,12 +80,14 @@ fn ask_opened<T: Threads, D: Disk, W: Write>(
 /// text or of the writer rose. After an `Err` the text and the writer are not used again.
 ///
 /// `delta` is the width of a search's buckets, 1 to 2147483647. Every width gives the same answers. Without one it is the network's default. Each source is
-/// searched once, or each target if there are fewer targets, as by `answer_pairs`.
+/// searched once, or each target if there are fewer targets, as by `answer_pairs`. With `routes` the answer to a pair is the arcs of a shortest walk, as by
+/// `answer_routes`.
 pub fn ask_text<T: Threads, D: Disk, S: Text, W: Write>(
     rt: &T,
     alloc: Global,
     disk: D,
     p2p: &mut S,
+    routes: bool,
     delta: Option<u32>,
     out: &mut CountedWriter<'_, W>,
 ) -> (Result<Done, Failed>, D)
@@ -76,7 +95,7 @@ pub fn ask_text<T: Threads, D: Disk, S: Text, W: Write>(
     ensures width { IfOk result.0 (λ done. told_width done ≡ delta) }
     // On any disk the answers are right in the network of the store that was opened.
     ensures answered { OnOk result.0 (IfSome (S.bytes p2p.old)
-        (λ text. IsAsked (D.honest disk) (D.content disk) text (W.contents (writer_of out.old)) (W.contents (writer_of out.new)))) }
+        (λ text. IsAsked routes (D.honest disk) (D.content disk) text (W.contents (writer_of out.old)) (W.contents (writer_of out.new)))) }
     ensures refused { IfErr result.0 (λ failed. IfSome (S.bytes p2p.old) (λ text. IsRefusedAsk (D.honest disk) (D.content disk) text (S.source p2p.new) failed)) }
     ensures codes { IfErr result.0 IsOfStore }
     // Lack of memory is reported only if the header fits the file.
@@ -101,5 +120,5 @@ pub fn ask_text<T: Threads, D: Disk, S: Text, W: Write>(
         Ok(pairs) => pairs,
         Err(failed) => return (Err(failed), store.close()),
     };
-    ask_opened(rt, alloc, store, &pairs, delta, out)
+    ask_opened(rt, alloc, store, &pairs, routes, delta, out)
 }

@@ -1,29 +1,37 @@
 //! A network with a group of commands carried out, for whoever supposes it.
 
 ghost use Rattle.std.specs.Prelude.{◌≡◌, ◌↔◌, true, All, IsTrue, IfOk, IfErr, IsOk, IsSome, OnOk};
+ghost use Rattle.std.specs.Option.{ForSome};
 ghost use Rattle.roadnet.specs.Batches.{MayRefuseBatch};
+ghost use Rattle.roadnet.specs.Ends.{KeepsEnds};
 ghost use Rattle.roadnet.specs.Net.{IsNode};
 ghost use Rattle.roadnet.specs.Step.{is_node};
+ghost use Rattle.rows.specs.Backs.{LeadsBack};
 ghost use Rattle.rows.specs.declared.queries.Query.TheVariants.{Dist, From};
 ghost use Rattle.rows.specs.Nearby.{are_pairs, node_of, IsNear, IsUntold};
 ghost use Rattle.rows.specs.Replies.{refusal_of, IsRight};
 ghost use Rattle.rows.specs.Views.{AreRight};
+ghost use Rattle.routes.specs.RouteReplies.{IsRightRoute};
 ghost use Rattle.suppositions.specs.Supposing.{Supposes};
 
-use deltastep::NodeDistance;
+use deltastep::{NodeDistance, Workspace};
+use relax::{CHUNK, Crew};
 use roadnet::{Group, Network, OutOfMemory, Refusal};
-use rows::{Asker, Near, Reply, RowCache, WIDEST};
+use routes::{RouteReply, answer_route};
+use rows::{Asker, Near, Reply, RowCache, WIDEST, numbered_back};
 use snapshot::Snapshot;
 use std::alloc::Global;
 use std::array::from_ref;
 use std::marker::Model;
+use std::sync::Arc;
 use std::thread::Threads;
 
 /// A supposed network: a copy of a network at some version, with a group of commands carried out. Its owner does not share it: later changes of the
 /// original network do not change it, and questions to it change nothing elsewhere.
 ///
 /// It takes what a network takes; 8 bytes an open arc and 8 a node for the groups of its arcs; as much again for the reversed arcs, once it was asked what
-/// reaches a node; 4 or 8 a node for one row, that of a source that was asked twice; and the memory of a search. It has no rows of landmarks.
+/// reaches a node; 8 an arc and 8 a node for all arcs reversed with their numbers, once it was asked for a route, unless it was given those of the original
+/// network; 4 or 8 a node for one row, that of a source that was asked twice; and the memory of two searches. It has no rows of landmarks.
 #[derive(Drop)]
 pub struct Supposed {
     version: u64,
@@ -31,13 +39,18 @@ pub struct Supposed {
     groups: Snapshot,
     /// The open arcs the other way round, grouped, once they are needed.
     turned: Option<Snapshot>,
+    /// All arcs the other way round, with their numbers, once they are needed.
+    back: Option<Arc<Snapshot>>,
     rows: RowCache,
+    /// The memory of searches for routes.
+    workspace: Workspace,
 }
 
 impl Model for Supposed {
     ghost use Rattle.std.specs.Option.{ForSome};
     ghost use Rattle.roadnet.specs.Reversal.{reversed};
     ghost use Rattle.snapshot.specs.Groups.{IsSnapshotOf};
+    ghost use Rattle.rows.specs.Backs.{LeadsBack};
     ghost use Rattle.kept_rows.specs.Cached.{HasRowsOf};
     ghost use Rattle.suppositions.specs.Supposing.{Supposition};
 
@@ -48,7 +61,8 @@ impl Model for Supposed {
     ghost invariant = { λ s.
         IsSnapshotOf s.network s.groups
         × ForSome s.turned (λ back. IsSnapshotOf (reversed s.network) back)
-        × HasRowsOf s.version s.network s.rows };
+        × HasRowsOf s.version s.network s.rows
+        × ForSome s.back (λ back. LeadsBack s.network back.value) };
 }
 
 /// Whether all of these are nodes.
@@ -63,9 +77,37 @@ fn has_nodes(network: &Network, nodes: &[u64]) -> bool
     true
 }
 
+/// A share of these arcs. The only error is that there is none.
+fn shared(back: &Arc<Snapshot>) -> Result<Arc<Snapshot>, OutOfMemory>
+    ensures { IfOk result (λ share. share.value ≡ back.now.value) }
+{
+    match Arc::try_clone(back) {
+        Ok(share) => Ok(share),
+        Err(_) => Err(OutOfMemory),
+    }
+}
+
+/// The reversed arcs of the network before a change, if they are those of the network after it, because no arc was laid.
+fn back_since(
+    before: &Network,
+    after: &Network,
+    back: Option<Arc<Snapshot>>,
+) -> Option<Arc<Snapshot>>
+    requires back { ForSome back (λ back. LeadsBack before.now back.value) }
+    requires ends { KeepsEnds before.now after.now }
+    ensures { ForSome result (λ back. LeadsBack after.now back.value) }
+{
+    if before.arcs().len() == after.arcs().len() {
+        back
+    } else {
+        None
+    }
+}
+
 impl Supposed {
     /// Supposes that the group is carried out, all of it, on the network of this version. `delta` is the width of the buckets of searches. Below 1 it
-    /// counts as 1, and above 2147483647 as that.
+    /// counts as 1, and above 2147483647 as that. `back` has the arcs of that network the other way round, with their numbers, if they are there. They serve
+    /// routes if the group lays no arc.
     ///
     /// It fails with the refusal of the first command of the group that is not admitted after those before it; or, if all are admitted, for lack of memory
     /// (11). Then nothing is supposed. For a group that is not admitted it takes no memory.
@@ -75,9 +117,11 @@ impl Supposed {
         alloc: Global,
         version: u64,
         network: &Network,
+        back: Option<Arc<Snapshot>>,
         delta: u32,
         group: &Group,
     ) -> Result<Supposed, Refusal>
+        requires { ForSome back (λ back. LeadsBack network.now back.value) }
         ensures supposed { IfOk result (Supposes version network.now group.now) }
         ensures refused { IfErr result (MayRefuseBatch network.now group.now) }
     {
@@ -85,12 +129,15 @@ impl Supposed {
         let mut after = network.copy()?;
         after.apply_group(group)?;
         let groups = Snapshot::build(alloc, &after, delta.max(1).min(WIDEST))?;
+        let back = back_since(network, &after, back);
         Ok(Supposed {
             version,
             network: after,
             groups,
             turned: None,
+            back,
             rows: RowCache::new(alloc, 1),
+            workspace: Workspace::new(),
         })
     }
 
@@ -188,6 +235,55 @@ impl Supposed {
                 .ask_near(rt, alloc, &mut self.rows, near),
             None => asker.ask_near(rt, alloc, &mut self.rows, near),
         }
+    }
+
+    /// All arcs the other way round, with their numbers. They are made once. The only error is lack of memory.
+    fn back(&mut self, alloc: Global) -> Result<Arc<Snapshot>, OutOfMemory>
+        ensures back { IfOk result (λ back. LeadsBack self.old.network back.value) }
+        ensures same { self.new ≡ self.old }
+    {
+        if let Some(back) = &self.back {
+            return shared(back);
+        }
+        let Ok(back) = Arc::new(alloc, numbered_back(alloc, &self.network)?) else {
+            return Err(OutOfMemory);
+        };
+        let share = shared(&back)?;
+        self.back = Some(share);
+        Ok(back)
+    }
+
+    /// The reply to a question for a route in the supposed network, as `routes::answer_route` gives it, by a search that ends at the target. The only error is
+    /// lack of memory. What is refused takes none.
+    ///
+    /// If arc 7 of `examples/six.gr` is supposed to be closed, the route from 1 to 6 is 22 long, with the arcs 1, 3 and 6.
+    pub fn route<R: Threads>(
+        &mut self,
+        rt: &R,
+        alloc: Global,
+        source: u64,
+        target: u64,
+    ) -> Result<RouteReply, OutOfMemory>
+        ensures right { IfOk result (IsRightRoute self.old.network source target) }
+        ensures refused { IsSome (refusal_of self.old.network (Dist source target)) → IsOk result }
+        ensures same { self.new ≡ self.old }
+    {
+        if !self.network.has_node(source) || !self.network.has_node(target) {
+            return Ok(RouteReply::Refused(Refusal::NoSuchNode));
+        }
+        let back = self.back(alloc)?;
+        let crew = Crew::new(rt, CHUNK);
+        let asker = Asker::of(self.version, &self.network, &self.groups);
+        answer_route(
+            alloc,
+            &asker,
+            &back,
+            source,
+            target,
+            None,
+            &crew,
+            &mut self.workspace,
+        )
     }
 
     /// The replies to `Dist` for pairs of a source and a target in the supposed network, in their order, as `rows::Asker::table` gives them.

@@ -3,7 +3,7 @@ use Rattle.std.proofs.Common.{◌≡◌, ℕ, List, [], Option, None, Some, inl,
 use Rattle.std.specs.Option.{ForSome}
 use Rattle.clap.specs.declared.parser.matches.Found.{Found}
 use Rattle.words.specs.declared.words.Job.{Job}
-use Rattle.words.specs.declared.words.Job.TheVariants.{Joint, Once, Batch, Reach, Reached, Rehearse, Create, Apply, Ask, Serve, Copy}
+use Rattle.words.specs.declared.words.Job.TheVariants.{Joint, Once, Route, Batch, Reach, Reached, Rehearse, Create, Apply, Ask, Serve, Copy}
 use Rattle.words.specs.Pipes.{AreFit}
 use Rattle.words.specs.Words.{Gives, GivesOr, GivesParts, HasFitParts, IsJournal, IsWidth, IsWorkers}
 
@@ -28,6 +28,7 @@ no_pipes = (omega arith, λ later less. absurd (omega arith))
 pub parts_fit : (found : Found) (job : Job) → GivesParts found job → HasFitParts job
 parts_fit found (Joint delta) given = (given_fit found _ IsWidth delta given, none_fit IsJournal, none_fit IsWorkers, no_pipes)
 parts_fit found (Once network source target delta) given = (given_fit found _ IsWidth delta given.3, none_fit IsJournal, none_fit IsWorkers, no_pipes)
+parts_fit found (Route network source target delta) given = (given_fit found _ IsWidth delta given.3, none_fit IsJournal, none_fit IsWorkers, no_pipes)
 parts_fit found (Batch network pairs delta) given = (given_fit found _ IsWidth delta given.2, none_fit IsJournal, none_fit IsWorkers, no_pipes)
 parts_fit found (Reach network source within delta) given = (given_fit found _ IsWidth delta given.3, none_fit IsJournal, none_fit IsWorkers, no_pipes)
 parts_fit found (Reached network target within delta) given = (given_fit found _ IsWidth delta given.3, none_fit IsJournal, none_fit IsWorkers, no_pipes)
@@ -44,7 +45,7 @@ parts_fit found (Create store network landmarks journal_pages room) given = (
   no_pipes,
 )
 parts_fit found (Apply store commands delta) given = (given_fit found _ IsWidth delta given.2, none_fit IsJournal, none_fit IsWorkers, no_pipes)
-parts_fit found (Ask store pairs delta) given = (given_fit found _ IsWidth delta given.2, none_fit IsJournal, none_fit IsWorkers, no_pipes)
+parts_fit found (Ask store pairs routes delta) given = (given_fit found _ IsWidth delta given.3, none_fit IsJournal, none_fit IsWorkers, no_pipes)
 parts_fit found (Serve store pipes copies delta workers patience) given = (
   given_fit found _ IsWidth delta given.4,
   none_fit IsJournal,

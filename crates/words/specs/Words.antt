@@ -9,7 +9,7 @@ use Rattle.clap.specs.Words.{first_value, matched_of, one_text, raw_values}
 use Rattle.words.specs.declared.words.PairTexts.{PairTexts}
 use Rattle.words.specs.declared.words.PairTexts.TheVariants.{Listed, Table}
 use Rattle.words.specs.declared.words.Job.{Job}
-use Rattle.words.specs.declared.words.Job.TheVariants.{Joint, Once, Batch, Reach, Reached, Rehearse, Create, Apply, Ask, Check, Serve, Migrate, Copy, Upgrade, Show, Export}
+use Rattle.words.specs.declared.words.Job.TheVariants.{Joint, Once, Route, Batch, Reach, Reached, Rehearse, Create, Apply, Ask, Check, Serve, Migrate, Copy, Upgrade, Show, Export}
 use Rattle.words.specs.declared.words.ArcNumbers.{ArcNumbers}
 use Rattle.words.specs.declared.words.ArcNumbers.TheVariants.{Arc, Between}
 use Rattle.words.specs.declared.words.Usage.{Usage}
@@ -26,12 +26,13 @@ IsWidth delta = (1 ≤ delta) × (delta ≤ 2147483647)
 abbrev pub delta_of : Job → Option ℕ
 delta_of (Joint delta) = delta
 delta_of (Once network source target delta) = delta
+delta_of (Route network source target delta) = delta
 delta_of (Batch network pairs delta) = delta
 delta_of (Reach network source within delta) = delta
 delta_of (Reached network target within delta) = delta
 delta_of (Rehearse network script journal_pages room delta) = delta
 delta_of (Apply store commands delta) = delta
-delta_of (Ask store pairs delta) = delta
+delta_of (Ask store pairs routes delta) = delta
 delta_of (Serve store pipes copies delta workers patience) = delta
 delta_of job = None
 
@@ -73,13 +74,14 @@ HasFitParts job = ForSome (delta_of job) IsWidth × ForSome (journal_of job) IsJ
 abbrev pub subcommand_of : Job → Option (List ℕ)
 subcommand_of (Joint delta) = None
 subcommand_of (Once network source target delta) = Some (codes "once")
+subcommand_of (Route network source target delta) = Some (codes "route")
 subcommand_of (Batch network pairs delta) = Some (codes "batch")
 subcommand_of (Reach network source within delta) = Some (codes "reach")
 subcommand_of (Reached network target within delta) = Some (codes "reached")
 subcommand_of (Rehearse network script journal_pages room delta) = Some (codes "rehearse")
 subcommand_of (Create store network landmarks journal_pages room) = Some (codes "create")
 subcommand_of (Apply store commands delta) = Some (codes "apply")
-subcommand_of (Ask store pairs delta) = Some (codes "ask")
+subcommand_of (Ask store pairs routes delta) = Some (codes "ask")
 subcommand_of (Check store) = Some (codes "check")
 subcommand_of (Serve store pipes copies delta workers patience) = Some (codes "serve")
 subcommand_of (Migrate old new room) = Some (codes "migrate")
@@ -134,10 +136,13 @@ given_pairs found = names_given (first_value found (codes "P2P")) (first_value f
 abbrev pub IsPatience : ℕ → Type 0
 IsPatience patience = (1 ≤ patience) × (patience ≤ 86400)
 
--- whether the words have `--verbose`, which stands for the text `true`
+-- whether the words have the flag of this name, which stands for the text `true`
+abbrev pub GivesFlag : Found → List ℕ → Bool → Type 0
+GivesFlag found name flag = (one_text found name ≡ Some (codes "true") → flag ≡ true) × (one_text found name ≡ None → flag ≡ false)
+
+-- whether they have `--verbose`
 abbrev pub GivesVerbose : Found → Bool → Type 0
-GivesVerbose found verbose =
-    (one_text found (codes "verbose") ≡ Some (codes "true") → verbose ≡ true) × (one_text found (codes "verbose") ≡ None → verbose ≡ false)
+GivesVerbose found verbose = GivesFlag found (codes "verbose") verbose
 
 -- all words that stand under a name
 abbrev pub all_values : Found → List ℕ → List (List ℕ)
@@ -153,6 +158,9 @@ GivesArcs found (Some (Between tail head)) = Gives found (codes "K") IsLong (Som
 abbrev pub GivesParts : Found → Job → Type 0
 GivesParts found (Joint delta) = Gives found (codes "delta") IsWidth delta
 GivesParts found (Once network source target delta) =
+    (first_value found (codes "GR") ≡ Some network.now) × Gives found (codes "S") IsLong (Some source)
+    × Gives found (codes "T") IsLong (Some target) × Gives found (codes "delta") IsWidth delta
+GivesParts found (Route network source target delta) =
     (first_value found (codes "GR") ≡ Some network.now) × Gives found (codes "S") IsLong (Some source)
     × Gives found (codes "T") IsLong (Some target) × Gives found (codes "delta") IsWidth delta
 GivesParts found (Batch network pairs delta) =
@@ -172,9 +180,9 @@ GivesParts found (Create store network landmarks journal_pages room) =
 GivesParts found (Apply store commands delta) =
     (first_value found (codes "STORE") ≡ Some store.now) × (first_value found (codes "COMMANDS") ≡ Some commands.now)
     × Gives found (codes "delta") IsWidth delta
-GivesParts found (Ask store pairs delta) =
+GivesParts found (Ask store pairs routes delta) =
     (first_value found (codes "STORE") ≡ Some store.now) × (given_pairs found ≡ Some (pair_names pairs))
-    × Gives found (codes "delta") IsWidth delta
+    × GivesFlag found (codes "routes") routes × Gives found (codes "delta") IsWidth delta
 GivesParts found (Check store) = first_value found (codes "STORE") ≡ Some store.now
 GivesParts found (Serve store pipes copies delta workers patience) =
     (first_value found (codes "STORE") ≡ Some store.now) × ArePairs (all_values found (codes "PIPES")) (all_values found (codes "asking")) pipes.items × AreFit pipes.items
@@ -214,7 +222,7 @@ ComesTwice false (Table sources targets) = IsInput sources.now × IsInput target
 -- two texts of a job are the standard input
 abbrev pub NamesInputTwice : Job → Type 0
 NamesInputTwice (Batch network pairs delta) = (IsInput network.now × ComesTwice true pairs) ⊎ ComesTwice false pairs
-NamesInputTwice (Ask store pairs delta) = ComesTwice false pairs
+NamesInputTwice (Ask store pairs routes delta) = ComesTwice false pairs
 NamesInputTwice (Rehearse network script journal_pages room delta) = IsInput network.now × IsInput script.now
 NamesInputTwice (Create store network landmarks journal_pages room) = IsInput network.now × IsInput landmarks.now
 NamesInputTwice (Upgrade store old network new room) = IsInput old.now × IsInput network.now

@@ -53,6 +53,8 @@ pub const WORKERS: &str = "workers";
 
 pub const PATIENCE: &str = "patience";
 
+pub const ROUTES: &str = "routes";
+
 pub const VERBOSE: &str = "verbose";
 
 /// The greatest width of a search's buckets.
@@ -69,6 +71,8 @@ pub const MOST_PATIENCE: u32 = 86_400;
 
 // The words that name a job.
 pub const ONCE: &str = "once";
+
+pub const ROUTE: &str = "route";
 
 pub const BATCH: &str = "batch";
 
@@ -108,6 +112,9 @@ The exit status is 0 if everything was done, 1 after a fault, 2 if the arguments
 const ABOUT_ONCE: &str =
     "Prints the length of a shortest walk from S to T in the network of the file GR: the line `v 0`, then `d S T LENGTH`, or `x S T` if no walk leads there, or `no 24` if S or T is not a node.";
 
+const ABOUT_ROUTE: &str =
+    "Prints the arcs of a shortest walk from S to T in the network of the file GR: the lines `v 0` and `route S T LENGTH C`, then C lines `a K T H W open`, the arcs in the order of the walk. The walk visits no node twice. It prints `v 0` and `x S T` if no walk leads there, or `v 0` and `no 24` if S or T is not a node.";
+
 const ABOUT_BATCH: &str =
     "Answers the pairs of the file P2P in the network of the file GR. It prints the line `v 0`, then one line for each pair, in their order: `d S T LENGTH`, or `x S T` if no walk leads there.
 
@@ -135,7 +142,9 @@ The lines `begin` and `end` enclose a group of 1 to 253 commands: all are carrie
 const ABOUT_ASK: &str =
     "Answers the pairs of the file P2P in the network of the store in the file STORE. It prints the line `v V`, with the version V of the store, then one line for each pair, in their order: `d S T LENGTH`, or `x S T` if no walk leads there. The store stays as it is.
 
-With --from and --to, and without P2P, the pairs are a table: each source with each target, source by source, in the order of these two files.";
+With --from and --to, and without P2P, the pairs are a table: each source with each target, source by source, in the order of these two files.
+
+With --routes it prints for each pair of P2P the arcs of a shortest walk, as the subcommand `route` does.";
 
 const ABOUT_CHECK: &str =
     "Checks the whole file STORE, as every opening of a store does, and prints three lines. The store stays as it is.
@@ -177,11 +186,12 @@ answer, or by `no CODE`:
   nearest S K  the K landmarks nearest to S
   table A B S .. T ..
                the lengths from each of A sources to each of B targets
+  route S T    the arcs of a shortest walk from S to T, in its order
 
 What-if queries, for this client only:
   suppose, end enclose commands, answered by `suppose V`. From then on dist, from,
-               table, reach, reached and nearest are answered, after `s V`, as if
-               these commands had been carried out on version V
+               table, route, reach, reached and nearest are answered, after `s V`,
+               as if these commands had been carried out on version V
   forget       ends these queries: `forgotten`
 
 Other lines:
@@ -196,7 +206,7 @@ Other lines:
 Empty lines and lines that begin with # have no answer. Any other line is answered by `no 1` or `no 5`.";
 
 const AFTER_SERVE: &str =
-    "Lines of a session: set, close, reopen, mark, unmark, lay, begin, end, dist, from, lower, arc, arcs, landmarks, closed, table, reach, reached, nearest, suppose, forget, wait, until, state, copy, quit. `man roadmark` and docs/MANUAL.md say what each takes and how it is answered.
+    "Lines of a session: set, close, reopen, mark, unmark, lay, begin, end, dist, from, lower, arc, arcs, landmarks, closed, table, route, reach, reached, nearest, suppose, forget, wait, until, state, copy, quit. `man roadmark` and docs/MANUAL.md say what each takes and how it is answered.
 
 Example: printf 'close 7\\nwait\\ndist 1 6\\n' | roadmark serve six.store";
 
@@ -288,6 +298,9 @@ const HEAD_HELP: &str = "Node where the arcs end";
 const PIPES_HELP: &str =
     "Named pipes, two for each client at a time, at most 60 pairs in all. A client writes its lines into IN and reads its answers from OUT";
 
+const ROUTES_HELP: &str =
+    "Prints the arcs of a shortest walk for each pair of the file P2P, instead of its length";
+
 const VERBOSE_HELP: &str =
     "Reports progress on standard error, at most one line a second, and why a file cannot be opened";
 
@@ -320,6 +333,8 @@ enum Taken {
     Patience,
     /// `--within L`.
     Within,
+    /// `--routes`.
+    Routes,
     /// `--delta D`, with its help.
     Delta(&'static str),
     /// `--journal J`, with its help.
@@ -334,6 +349,7 @@ enum Taken {
 #[derive(Clone, Copy)]
 enum Word {
     Once,
+    Route,
     Batch,
     Reach,
     Reached,
@@ -351,8 +367,9 @@ enum Word {
 }
 
 /// The words that name a job, in the order of the program's help.
-const WORDS: [Word; 15] = [
+const WORDS: [Word; 16] = [
     Word::Once,
+    Word::Route,
     Word::Batch,
     Word::Reach,
     Word::Reached,
@@ -391,6 +408,20 @@ const ONCE_ENTRY: Entry = Entry {
     about: "Prints the length of a shortest walk between two nodes",
     long_about: ABOUT_ONCE,
     after_help: "Example: roadmark once examples/six.gr 1 6",
+    takes: &[
+        Taken::Word(NETWORK, GR_HELP),
+        Taken::Number(SOURCE, "S", "Node where the walk begins"),
+        Taken::Number(TARGET, "T", "Node where the walk ends"),
+        Taken::Delta(DELTA_HELP),
+        Taken::Verbose,
+    ],
+};
+
+const ROUTE_ENTRY: Entry = Entry {
+    name: ROUTE,
+    about: "Prints the arcs of a shortest walk between two nodes",
+    long_about: ABOUT_ROUTE,
+    after_help: "Example: roadmark route examples/six.gr 1 6",
     takes: &[
         Taken::Word(NETWORK, GR_HELP),
         Taken::Number(SOURCE, "S", "Node where the walk begins"),
@@ -499,6 +530,7 @@ const ASK_ENTRY: Entry = Entry {
         Taken::Pairs,
         Taken::Sources,
         Taken::Targets,
+        Taken::Routes,
         Taken::Delta(DELTA_HELP),
         Taken::Verbose,
     ],
@@ -609,6 +641,7 @@ const EXPORT_ENTRY: Entry = Entry {
 fn entry_of(word: Word) -> &'static Entry {
     match word {
         Word::Once => &ONCE_ENTRY,
+        Word::Route => &ROUTE_ENTRY,
         Word::Batch => &BATCH_ENTRY,
         Word::Reach => &REACH_ENTRY,
         Word::Reached => &REACHED_ENTRY,
@@ -691,6 +724,10 @@ fn argument_of<'w>(alloc: Global, taken: Taken) -> Result<Arg<'w>, AllocError> {
         Taken::Workers => Ok(number_option(alloc, WORKERS, "W", MOST_WORKERS, WORKERS_HELP)),
         Taken::Patience => { Ok(number_option(alloc, PATIENCE, "S", MOST_PATIENCE, PATIENCE_HELP)) }
         Taken::Within => Ok(number_argument(alloc, WITHIN, "L", WITHIN_HELP).long(WITHIN)),
+        Taken::Routes => argument(alloc, ROUTES, ROUTES_HELP)
+            .long(ROUTES)
+            .action(ArgAction::SetTrue)
+            .conflicts_with(SOURCES),
         Taken::Delta(help) => Ok(number_option(alloc, DELTA, "D", MOST_WIDTH, help)),
         Taken::Journal(help) => Ok(number_option(alloc, JOURNAL, "J", MOST_JOURNAL_PAGES, help)),
         Taken::Room(help) => Ok(number_argument(alloc, ROOM, "R", help).long(ROOM)),

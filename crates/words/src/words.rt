@@ -10,8 +10,8 @@ ghost use Rattle.words.specs.Words.{delta_of, journal_of, workers_of, pipes_of, 
 use crate::commands::{
     APPLY, ASK, ASKING, BATCH, CHECK, COMMANDS, COPIES, COPY, CREATE, DELTA, EXPORT, FILE, FOLDER,
     HEAD, JOURNAL, LANDMARKS, MIGRATE, MOST_JOURNAL_PAGES, MOST_PATIENCE, MOST_WIDTH, MOST_WORKERS,
-    NETWORK, NEW, NUMBER, OLD, ONCE, PAIRS, PATIENCE, PIPES, REACH, REACHED, REHEARSE, ROOM,
-    SCRIPT, SERVE, SHOW, SOURCE, SOURCES, STORE, TARGET, TARGETS, UPGRADE, VERBOSE, WITHIN,
+    NETWORK, NEW, NUMBER, OLD, ONCE, PAIRS, PATIENCE, PIPES, REACH, REACHED, REHEARSE, ROOM, ROUTE,
+    ROUTES, SCRIPT, SERVE, SHOW, SOURCE, SOURCES, STORE, TARGET, TARGETS, UPGRADE, VERBOSE, WITHIN,
     WORKERS, program,
 };
 use crate::pipes::{Misfit, PipePair, pairs_of};
@@ -47,6 +47,13 @@ pub enum Job<'w> {
     },
     /// One distance in the network of a file.
     Once {
+        network: &'w str,
+        source: u64,
+        target: u64,
+        delta: Option<u32>,
+    },
+    /// The arcs of one shortest walk in the network of a file.
+    Route {
         network: &'w str,
         source: u64,
         target: u64,
@@ -100,6 +107,8 @@ pub enum Job<'w> {
     Ask {
         store: &'w str,
         pairs: PairTexts<'w>,
+        /// Whether the arcs of a shortest walk are told for each pair that is listed, and not its length.
+        routes: bool,
         delta: Option<u32>,
     },
     /// How a store stands.
@@ -300,6 +309,21 @@ fn once_in<'w>(matches: &ArgMatches<'w>) -> Option<Job<'w>>
     })
 }
 
+fn route_in<'w>(matches: &ArgMatches<'w>) -> Option<Job<'w>>
+    ensures given { IfSome result (GivesJob (codes "route") (found_of matches.now)) }
+    ensures missing { result ≡ None → Lacks (found_of matches.now) (codes "GR" ∷ []) (codes "S" ∷ codes "T" ∷ []) }
+{
+    let network = matches.get_str(NETWORK)?;
+    let source = number_in(matches, SOURCE)?;
+    let target = number_in(matches, TARGET)?;
+    Some(Job::Route {
+        network,
+        source,
+        target,
+        delta: width_in(matches),
+    })
+}
+
 /// The texts of pairs by these names: a list alone, or sources and targets together and no list.
 fn named_pairs<'w>(
     pairs: Option<&'w str>,
@@ -420,6 +444,7 @@ fn ask_in<'w>(matches: &ArgMatches<'w>) -> Option<Job<'w>>
     Some(Job::Ask {
         store,
         pairs,
+        routes: matches.get_flag(ROUTES),
         delta: width_in(matches),
     })
 }
@@ -545,6 +570,7 @@ fn plain_job_in<'w>(name: &str, matches: &ArgMatches<'w>) -> Option<Job<'w>>
 {
     match name {
         ONCE => once_in(matches),
+        ROUTE => route_in(matches),
         BATCH => batch_in(matches),
         REACH => reach_in(matches),
         REACHED => reached_in(matches),
@@ -625,6 +651,7 @@ fn names_input_twice(job: &Job<'_>) -> bool
         } => is_input(network) && is_input(second),
         Job::Joint { .. }
         | Job::Once { .. }
+        | Job::Route { .. }
         | Job::Reach { .. }
         | Job::Reached { .. }
         | Job::Apply { .. }

@@ -12,8 +12,9 @@ settle_guided-requires-clause-done g c = IsDone-between c.args.snapshot.now c.ar
 
 pub returns : goal.returns
 returns g c = record {
+  places = c.in_ok-settle_guided.ensures.places;
   distance = λ net snapshot.
       let begins = IsGuided-between c.args.snapshot.now c.args.source (g.G.Guide.target c.args.guide.now) c.in_ok-search.search.tentative (g.Q.BucketQueue.entries c.in_ok-search.search.buckets) (top_small c.args.snapshot.now c.in_ok-search.ensures.grouped) c.in_ok-search.ensures.state in
       let best : IsBest c.args.snapshot.now c.settle_guided.new.self.tentative c.args.target = subst (λ v. IsBest c.args.snapshot.now c.settle_guided.new.self.tentative v) c.requires.leads c.in_ok-settle_guided.ensures.best in
-      rw c.get.ensures.value (entry_of_node net c.args.snapshot.now snapshot c.in_ok-search.ensures.grouped c.args.source c.settle_guided.new.self.tentative c.args.target c.requires.source.0 c.requires.source.1 (c.in_ok-settle_guided.ensures.reached c.args.source begins) (best c.args.source));
+      (entry_of_node net c.args.snapshot.now snapshot c.in_ok-search.ensures.grouped c.args.source c.settle_guided.new.self.tentative c.args.target c.requires.source.0 c.requires.source.1 (c.in_ok-settle_guided.ensures.reached c.args.source begins) (best c.args.source));
 }

@@ -1,17 +1,6 @@
-use Rattle.std.proofs.Common.{◌≡◌, ◌∙◌, length, sym, rules}
-use Rattle.roadnet.specs.Ends.{KeepsEnds}
-use Rattle.roadnet.specs.Net.{Net}
-use Rattle.roadnet.proofs.EndsKept.{KeepsEnds-onward, ends_were_the_same}
-use Rattle.snapshot.specs.Groups.{Groups}
-use Rattle.rows.specs.Backs.{LeadsBack}
+use Rattle.std.proofs.Common.{◌≡◌, length, sym, rules}
+use Rattle.rows.proofs.Numbering.{leads_on}
 use Rattle.desk.proofs.plans.back_after.Goals as goal
-
--- what leads back in a network leads back in a later one that has no more arcs
-leads_on : (old new : Net) (back : Groups) → KeepsEnds old new → length new.arcs ≡ length old.arcs → LeadsBack old back → LeadsBack new back
-leads_on old new back keeps many leads = record {
-  nodes = leads.nodes ∙ sym keeps.nodes;
-  tails = λ older groups grouped is kept. leads.tails older groups grouped is (KeepsEnds-onward older new old kept (ends_were_the_same old new keeps many));
-}
 
 pub returns-in-Some : goal.returns-in-Some
 returns-in-Some c x is =
@@ -21,4 +10,4 @@ returns-in-Some c x is =
 pub returns-in-Ok : goal.returns-in-Ok
 returns-in-Ok c x is =
     let same : x.value ≡ c.in-Ok.back = search rules in
-    rw same (record { nodes = c.in-Ok.ensures.nodes; tails = c.in-Ok.ensures.tails })
+    rw same c.in-Ok.ensures

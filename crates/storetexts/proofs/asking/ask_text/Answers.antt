@@ -42,7 +42,7 @@ returns-clause-answered g c =
     let answers = c.ask_opened.ensures.answered in
     let known = g.S.Text.bytes c.args.p2p.now in
     let source = g.S.Text.source c.read_p2p-read.new.text in
-    asked_of _ _ c.in-Ok.store.network c.in-Ok.store.version c.nodes.result c.in-Ok.ensures.stands nodes c.ask_opened.result.0 known source c.in-Ok-of_text.pairs.items _ _
+    asked_of _ _ c.in-Ok.store.network c.in-Ok.store.version c.nodes.result c.in-Ok.ensures.stands nodes c.args.routes c.ask_opened.result.0 known source c.in-Ok-of_text.pairs.items _ _
     (value_of vec_items 0 c.read_p2p-read.result c.in-Ok-of_text.pairs c.in-Ok-of_text.ensures (λ r. IfSome known (λ text. Reads (p2p_text c.nodes.result) text source r)) c.read_p2p-read.ensures.read) (rw list at answers)
 
 pub returns-clause-refused : goal.returns-clause-refused

@@ -10,4 +10,4 @@ invariant_of-self g c =
     let some : 0 < length c.self.inside.rows.items = search rules in
     let shelf : IsShelfOf origin c.self.inside.groups c.remove-unused.new.self.items = subst (λ (rows : List KeptRow). IsShelfOf origin c.self.inside.groups rows) (sym c.remove-unused.ensures.by_index.2)
     (shelf_without origin c.self.inside.groups c.self.inside.rows.items 0 some c.self.invariant.0) in
-    (shelf, search rules, search rules, c.self.invariant.3)
+    (shelf, search rules, search rules, c.self.invariant.3, c.self.invariant.4)

@@ -12,7 +12,7 @@ invariant_of-self g c =
     let row : IsOfShelf origin c.self.inside.groups c.args.kept = subst (λ (o : Option Beginning). IsOfShelf origin o c.args.kept) (sym groups) c.requires in
     let shelf : IsShelfOf origin c.self.inside.groups c.push_reserved.new.self.items = subst (λ (rows : List KeptRow). IsShelfOf origin c.self.inside.groups rows) (sym c.push_reserved.ensures.items)
     (shelf_with origin c.self.inside.groups c.self.inside.rows.items c.args.kept c.self.invariant.0 row) in
-    (shelf, search rules, search rules, c.self.invariant.3)
+    (shelf, search rules, search rules, c.self.invariant.3, c.self.invariant.4)
 
 pub returns : goal.returns
 returns g c = subst (λ (rows : List KeptRow). HasRow c.args.kept.source rows) (sym c.push_reserved.ensures.items) (has_last c.self.inside.rows.items c.args.kept)

@@ -15,4 +15,4 @@ invariant_of-self g c =
     let row : IsOfShelf origin groups c.remove-kept.result = of_shelf origin groups rows place c.remove-kept.result c.self.invariant.0 there.0 c.remove-kept.ensures.value in
     let shelf : IsShelfOf origin groups c.push_reserved.new.self.items = subst (λ (all : List KeptRow). IsShelfOf origin groups all) (sym c.push_reserved.ensures.items)
     (shelf_with origin groups c.remove-kept.new.self.items c.remove-kept.result others row) in
-    (shelf, search rules, search rules, c.self.invariant.3)
+    (shelf, search rules, search rules, c.self.invariant.3, c.self.invariant.4)

@@ -50,3 +50,6 @@ returns-in-Suppose c draft is = rw c.in-Suppose.is (c.faulty-in-Suppose.ensures 
 
 pub returns-in-Forget : goal.returns-in-Forget
 returns-in-Forget c draft is = rw c.in-Forget.is (c.faulty-in-Forget.ensures draft is)
+
+pub returns-in-Route : goal.returns-in-Route
+returns-in-Route c draft is = rw c.in-Route.is (c.faulty-in-Route.ensures draft is)

@@ -52,6 +52,11 @@ returns-in-Near-clause-told g c =
     rw c.in-Near.is
     (says_so g.W.Write.contents _ (g.C.Copies.copying c.args.copies.now) g.N.Naming.origin _ _ _ c.near.result _ _ c.requires (no_kept _ (c.near.ensures.stays.group ∙ c.requires)) c.near.ensures.stays.receipts (λ told is. (is, leaves_as _ _ c.near.ensures.stays)) c.near.ensures.told)
 
+pub returns-in-Route-clause-told : goal.returns-in-Route-clause-told
+returns-in-Route-clause-told g c =
+    rw c.in-Route.is
+    (says_so g.W.Write.contents _ (g.C.Copies.copying c.args.copies.now) g.N.Naming.origin _ _ _ c.route.result _ _ c.requires (no_kept _ (c.route.ensures.stays.group ∙ c.requires)) c.route.ensures.stays.receipts (λ told is. (is, leaves_as _ _ c.route.ensures.stays)) c.route.ensures.told)
+
 pub returns-in-Table-clause-told : goal.returns-in-Table-clause-told
 returns-in-Table-clause-told g c =
     rw c.in-Table.is

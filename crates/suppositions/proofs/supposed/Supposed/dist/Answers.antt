@@ -11,4 +11,5 @@ invariant_of-self g c = (
   c.self.invariant.0,
   c.self.invariant.1,
   subst (λ (v : Viewed). HasRowsOf v.version v.network c.ask.new.cache) c.of-asker.ensures c.ask.ensures.kept,
+  c.self.invariant.3,
 )

@@ -11,6 +11,7 @@ invariant_of-self g c = (
   c.self.invariant.0,
   c.self.invariant.1,
   subst (λ (v : Viewed). HasRowsOf v.version v.network c.ask_near.new.cache) (c.with_turned.ensures ∙ c.of-asker.ensures) c.ask_near.ensures.kept,
+  c.self.invariant.3,
 )
 
 pub ask_near-requires-in-None : goal.ask_near-requires-in-None
@@ -21,4 +22,5 @@ invariant_of-self-in-None g c = (
   c.self.invariant.0,
   c.self.invariant.1,
   subst (λ (v : Viewed). HasRowsOf v.version v.network c.ask_near-in-None.new.cache) c.of-asker.ensures c.ask_near-in-None.ensures.kept,
+  c.self.invariant.3,
 )

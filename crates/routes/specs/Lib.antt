@@ -1,0 +1,4 @@
+pub mod Routes
+pub mod RouteReplies
+pub mod RouteLaws
+pub mod Paths

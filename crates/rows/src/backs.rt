@@ -1,0 +1,51 @@
+//! The arcs of a network the other way round, grouped, each with its number.
+
+ghost use Rattle.std.specs.Prelude.{◌≡◌, ◌≤◌, ◌^◌, IfOk, length};
+ghost use Rattle.rows.specs.Backs.{numbered, numbered_from, LeadsBack};
+
+use roadnet::{LONGEST_ARC, Network, OutOfMemory, RoadArc};
+use snapshot::Snapshot;
+use std::alloc::Global;
+
+/// The arc the other way round, open, with its number in place of its length.
+fn numbered(number: u32, arc: RoadArc) -> RoadArc
+    ensures { result ≡ numbered number arc }
+{
+    RoadArc {
+        tail: arc.head,
+        head: arc.tail,
+        length: number,
+        opened: true,
+    }
+}
+
+/// The arcs of these numbers, each the other way round, in the same order.
+fn number_all(alloc: Global, arcs: &[RoadArc]) -> Result<Vec<RoadArc>, OutOfMemory>
+    requires { length arcs.now ≤ 2 ^ 26 }
+    ensures { IfOk result (λ all. all.items ≡ numbered_from 1 arcs.now) }
+{
+    let mut all = Vec::with_capacity(alloc, arcs.len())?;
+    let mut number = 0;
+    for &arc in arcs {
+        number += 1;
+        if all.push(numbered(number, arc)).is_err() {
+            return Err(OutOfMemory);
+        }
+    }
+    Ok(all)
+}
+
+/// All arcs of a network, open or closed, grouped by their heads. The legs of a node are the tails of the arcs that lead to it, each with the arc's number in
+/// place of a length. So it serves this network, those from which it came by commands, and those that come from it until an arc is laid, whatever the
+/// lengths and whichever arcs are open. Its only error is lack of memory, for 8 bytes an arc and 8 a node, and temporarily 16 more an arc.
+pub fn numbered_back(alloc: Global, network: &Network) -> Result<Snapshot, OutOfMemory>
+    ensures { IfOk result (LeadsBack network.now) }
+{
+    let arcs = number_all(alloc, network.arcs())?;
+    let Ok(turned) = Network::new(alloc, network.nodes(), arcs, &[]) else {
+        return Err(OutOfMemory);
+    };
+    let back = Snapshot::build(alloc, &turned, LONGEST_ARC)?;
+    let _grouped = back.nodes();
+    Ok(back)
+}

@@ -1,5 +1,5 @@
 -- Rows that are kept for all who ask a desk.
-use Rattle.std.specs.Prelude.{◌≡◌, ◌<◌, ℕ, Bool, true, nat_le, List, [], All, length, Option, None, Some}
+use Rattle.std.specs.Prelude.{◌≡◌, ◌≢◌, ◌<◌, ℕ, Bool, true, nat_le, List, [], All, length, Option, None, Some}
 use Rattle.std.specs.List.{slice_index_or}
 use Rattle.roadnet.specs.declared.groups.Group.{Group}
 use Rattle.roadnet.specs.Net.{Net}
@@ -22,10 +22,11 @@ abbrev pub IsShelfOf : Origin → Option Beginning → List KeptRow → Type 0
 IsShelfOf origin None rows = rows ≡ []
 IsShelfOf origin (Some front) rows = (front.origin ≡ origin) × ((net : Net) → after origin.base front.groups ≡ Some net → AreRowsIn net rows)
 
--- the groups after which the view of the rows stands, and the rows, that which was used last standing last
+-- the groups after which the view of the rows stands; the rows, that which was used last standing last; and the versions and sources that were asked and had none
 pub record Shelved : Type 0 where
   pub groups : Option Beginning
   pub rows : List KeptRow
+  pub asked : List (ℕ × ℕ)
 
 -- a row of the same network
 abbrev pub IsOfShelf : Origin → Option Beginning → KeptRow → Type 0
@@ -59,6 +60,17 @@ IsRowAt source rows place = (place < length rows) × ((any : KeptRow) → (slice
 -- this version and source stand at this place
 abbrev pub IsAskedAt : ℕ → ℕ → List (ℕ × ℕ) → ℕ → Type 0
 IsAskedAt version source asked place = (place < length asked) × ((any : ℕ × ℕ) → slice_index_or asked place any ≡ (version, source))
+
+-- none of these rows is of this source
+abbrev pub HasNoRow : ℕ → List KeptRow → Type 0
+HasNoRow source rows = All (λ kept. kept.source ≢ source) rows
+
+-- this version and source were asked, or weren't
+abbrev pub IsAsked : ℕ → ℕ → List (ℕ × ℕ) → Type 0
+IsAsked version source asked = (place : ℕ) × IsAskedAt version source asked place
+
+abbrev pub IsNotAsked : ℕ → ℕ → List (ℕ × ℕ) → Type 0
+IsNotAsked version source asked = All (λ key. key ≢ (version, source)) asked
 
 -- a row of this source is kept
 abbrev pub HasRow : ℕ → List KeptRow → Type 0

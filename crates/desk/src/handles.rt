@@ -208,7 +208,7 @@ impl<N: Naming, D: Disk + Drop, G: Gate + Drop, R: Wait + Copy> Handle<N, D, G, 
         let mut rows = self.rows.lock(&self.rt);
         match rows.row(glance, source) {
             Some(row) => Ok(distance_in(&row, target)),
-            None => Err(rows.missed(glance.version(), source)),
+            None => Err(rows.missed(glance, source)),
         }
     }
 }

@@ -1,11 +1,11 @@
 // The rows that are kept for all callers of a desk.
-ghost use Rattle.std.specs.Prelude.{◌≡◌, ◌<◌, [], length, true, None, IfOk, IfSome};
+ghost use Rattle.std.specs.Prelude.{◌≡◌, ◌<◌, [], length, false, true, None, IfNone, IfOk, IfSome};
 ghost use Rattle.roadnet.specs.Reversal.{reversed};
 ghost use Rattle.roadnet.specs.Walks.{RowOf};
 ghost use Rattle.snapshot.specs.Groups.{IsSnapshotOf};
 ghost use Rattle.rows.specs.Backs.{LeadsBack};
 ghost use Rattle.desk.specs.Readings.{IsViewAfter};
-ghost use Rattle.desk.specs.Shelves.{most_rows, is_latest, IsOfShelf, IsAfter, IsAskedAt, IsRowAt, HasRow};
+ghost use Rattle.desk.specs.Shelves.{most_rows, is_latest, IsOfShelf, IsAfter, IsAsked, IsAskedAt, IsNotAsked, IsRowAt, HasNoRow, HasRow};
 
 use crate::places::Glance;
 use deltastep::{Distances, Workspace};
@@ -44,7 +44,8 @@ pub(crate) struct Missed {
 
 /// The place of the row of this source, if it is among these.
 fn place_of(rows: &[KeptRow], source: u32) -> Option<usize>
-    ensures { IfSome result (λ place. IsRowAt source rows.now place) }
+    ensures found { IfSome result (λ place. IsRowAt source rows.now place) }
+    ensures none { IfNone result (HasNoRow source rows.now) }
 {
     for place in 0..rows.len() {
         if rows[place].source == source {
@@ -56,7 +57,8 @@ fn place_of(rows: &[KeptRow], source: u32) -> Option<usize>
 
 /// The place of this version and source, if they are among these.
 fn position_of(asked: &[(u64, u32)], version: u64, source: u32) -> Option<usize>
-    ensures { IfSome result (IsAskedAt version source asked.now) }
+    ensures found { IfSome result (IsAskedAt version source asked.now) }
+    ensures none { IfNone result (IsNotAsked version source asked.now) }
 {
     for place in 0..asked.len() {
         if asked[place] == (version, source) {
@@ -71,7 +73,7 @@ fn position_of(asked: &[(u64, u32)], version: u64, source: u32) -> Option<usize>
 /// ones, and for routes all of them with their numbers, if the view has none. It also keeps what up to four searches left, and up to 64 sources that were
 /// asked once.
 ///
-/// Contracts see it as the groups after which the view of the rows is shown, and the rows.
+/// Contracts see it as the groups after which the view of the rows is shown, the rows, and what was asked.
 #[derive(Drop)]
 pub(crate) struct Shelf<N: Naming> {
     /// The groups after which the view of the rows is shown.
@@ -96,7 +98,7 @@ impl<N: Naming> Model for Shelf<N> {
 
     ghost Value = { Shelved };
 
-    ghost view = { λ s. record { groups = s.groups; rows = s.rows.items } };
+    ghost view = { λ s. record { groups = s.groups; rows = s.rows.items; asked = s.asked.items } };
 
     ghost invariant = { λ s.
         IsShelfOf N.origin s.groups s.rows.items
@@ -150,7 +152,8 @@ impl<N: Naming> Shelf<N> {
 
     /// A share of the row of this source in this view, if it is kept. It then counts as the one that was used last.
     pub(crate) fn row(&mut self, glance: &Glance<N>, source: u32) -> Option<Distances>
-        ensures { IfSome result (RowOf glance.now.view.network source) }
+        ensures row { IfSome result (RowOf glance.now.view.network source) }
+        ensures kept { IfSome result (λ _. HasRow source self.new.rows) }
     {
         if !self.turn_to(glance) {
             return None;
@@ -252,6 +255,8 @@ impl<N: Naming> Shelf<N> {
     /// Whether this source is remembered for this version. If so, it is forgotten; otherwise it is remembered from now on. If there are 64 already, the
     /// first of them gives way.
     fn is_asked_again(&mut self, version: u64, source: u32) -> bool
+        ensures again { result ≡ true → IsAsked version source self.old.asked }
+        ensures first { result ≡ false → IsNotAsked version source self.old.asked }
         ensures groups { self.new.groups ≡ self.old.groups }
         ensures rows { self.new.rows ≡ self.old.rows }
     {
@@ -274,10 +279,13 @@ impl<N: Naming> Shelf<N> {
         }
     }
 
-    /// What a search for this source gets in a view of this version, in which the source has no kept row: what an earlier search left, if there is
-    /// something.
-    pub(crate) fn missed(&mut self, version: u64, source: u32) -> Missed {
-        let again = self.is_asked_again(version, source);
+    /// What a search for this source gets in this view, in which the source has no kept row: what an earlier search left, if there is something.
+    pub(crate) fn missed(&mut self, glance: &Glance<N>, source: u32) -> Missed
+        // The source is worth a row if it was asked before in the same version.
+        ensures again { result.again ≡ true → IsAsked glance.now.view.version source self.old.asked }
+        ensures first { result.again ≡ false → IsNotAsked glance.now.view.version source self.old.asked }
+    {
+        let again = self.is_asked_again(glance.version(), source);
         let workspace = self.workspace();
         Missed { workspace, again }
     }

@@ -168,7 +168,7 @@ fn serve_doors<N: Naming + Send + Sync + 'static, R: ServeRuntime>(
     desk.end_showing();
     let has_finished = visits.answering().let_finish(&rt, 1000);
     let closed = desk.close()?;
-    Ok((has_finished && visits.are_kept(&rt, &closed), closed))
+    Ok((has_finished && visits.past(&rt).is_kept(&closed), closed))
 }
 
 /// How many lines begin with `ok`.

@@ -275,7 +275,7 @@ where
     let (outcome, session) = serve(&threads, alloc, desk.handle(), terms, reader, writer);
     let done = Done::by(&desk);
     let closed = close_desk(threads, desk, lock, visits.answering())?;
-    if !session.is_kept(&closed) || !visits.are_kept(&threads, &closed) {
+    if !session.is_kept(&closed) || !visits.past(&threads).is_kept(&closed) {
         return Err(Refusal::Closed);
     }
     Ok(Ended {

@@ -9,14 +9,14 @@ use crate::copies::{AskingAlone, Copies};
 use crate::desk_calls::DeskCalls;
 use crate::past::Past;
 use crate::serving::Terms;
-use desk::{Closed, Gate, Handle, Naming};
+use desk::{Gate, Handle, Naming};
 use disk::Disk;
 use printing::Failed;
 use roadnet::Refusal;
 use session_lines::LastLine;
 use std::alloc::Global;
 use std::io::{BufRead, Write};
-use std::sync::{Arc, Mutex, Wait};
+use std::sync::{Arc, Mutex, MutexGuard, Wait};
 use std::thread::{self, JoinHandle, Threads};
 use std::time::Clock;
 
@@ -64,25 +64,9 @@ impl<N: Naming, C: Copies> Visits<N, C> {
         &self.answering
     }
 
-    /// A session has ended: what it has of its desk is added to what earlier ones left. Returns its outcome.
-    fn add<R: Wait>(&self, rt: &R, served: Served<N>) -> Result<(), Failed>
-        ensures { result ≡ served.outcome }
-    {
-        let Served {
-            outcome,
-            session,
-            failed_reads: _,
-            failed_writes: _,
-        } = served;
-        self.past.lock(rt).add(session);
-        outcome
-    }
-
-    /// Compares what the finished sessions left with their desk, which is closed, as by `Past::is_kept`.
-    pub fn are_kept<D: Disk, R: Wait>(&self, rt: &R, closed: &Closed<D>) -> bool
-        requires { closed.now.whole.origin ≡ N.origin }
-    {
-        self.past.lock(rt).is_kept(closed)
+    /// What the finished sessions left, under its lock: `Past::add` says what a session that ends adds to it, and `Past::is_kept` compares it with their desk.
+    pub fn past<R: Wait>(&self, rt: &R) -> MutexGuard<'_, Past<N>> {
+        self.past.lock(rt)
     }
 }
 
@@ -132,7 +116,12 @@ fn serve_in_turn<
             return;
         };
         let asks_alone = door.asks_alone();
-        let served = serve_at(
+        let Served {
+            outcome,
+            session,
+            failed_reads: _,
+            failed_writes: _,
+        } = serve_at(
             rt,
             alloc,
             desk,
@@ -141,7 +130,7 @@ fn serve_in_turn<
             &mut reader,
             &mut writer,
         );
-        let outcome = visits.add(rt, served);
+        visits.past(rt).add(session);
         door.ended(reader, writer, outcome);
     }
 }

@@ -3,7 +3,7 @@ use Rattle.std.specs.Prelude.{◌≡◌, ◌⊎◌, ◌+◌, List, length, Some}
 use mathlib.Core.List.{IsPrefix}
 use Rattle.roadnet.specs.declared.groups.Group.{Group}
 use Rattle.roadnet.specs.declared.refusals.Refusal.{Refusal}
-use Rattle.roadnet.specs.declared.refusals.Refusal.TheVariants.{NoReaderPlace}
+use Rattle.roadnet.specs.declared.refusals.Refusal.TheVariants.{Closed, NoReaderPlace}
 use Rattle.roadnet.specs.Step.{after}
 use Rattle.rows.specs.Views.{Viewed}
 use Rattle.history.specs.Origins.{Origin, Beginning}
@@ -24,6 +24,10 @@ pub record HasSeen (reading : Reading) : Type 0 where
   pub seen : List Group
   pub begins : IsPrefix seen reading.known.groups
   pub after_seen : IsViewAfter reading.known.origin seen reading.view
+
+-- why there is no place for a reader: none was found free, or the desk is closed
+abbrev pub IsNoPlace : Refusal → Type 0
+IsNoPlace refusal = (refusal ≡ NoReaderPlace) ⊎ (refusal ≡ Closed)
 
 -- why there is no reader: no place for it, or a first look that was refused
 abbrev pub IsNoReader : Refusal → Type 0

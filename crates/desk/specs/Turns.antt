@@ -74,9 +74,15 @@ is_lost m number = nat_lt m.durable number && m.broken
 abbrev pub is_unseen : Machine → Bool → ℕ → Bool
 is_unseen m builder_ended number = nat_lt m.shown number && (not (is_lost m number) && not builder_ended)
 
--- for what one who waited is refused: the store broke, or the thread that was waited for has ended
-abbrev pub IsUnserved : Refusal → Type 0
-IsUnserved refusal = (refusal ≡ Broken) ⊎ (refusal ≡ Closed)
+-- In some state of the machine over the desk's network and version the store is broken, and this number is not durable.
+pub record IsLostAt (origin : Origin) (number : ℕ) : Type 0 where
+  pub m : Machine
+  pub runs : RunsFrom origin m
+  pub lost : is_lost m number ≡ true
+
+-- for what one who waited for this number is refused: it is lost, or the thread that was waited for has ended
+abbrev pub IsUnserved : Origin → ℕ → Refusal → Type 0
+IsUnserved origin number refusal = ((refusal ≡ Broken) × IsLostAt origin number) ⊎ (refusal ≡ Closed)
 
 -- Some state of the machine over the desk's network and version shows the version after these groups.
 abbrev pub WereShown : Origin → List Group → Type 0
@@ -85,6 +91,10 @@ WereShown origin groups = (m : Machine) × RunsFrom origin m × (groups ≡ grou
 -- for what a group is refused: the desk is halted, or else some state of the machine over the desk's network and version refuses this group so
 abbrev pub IsUntaken : Origin → Group → Refusal → Type 0
 IsUntaken origin group refusal = refusal ≢ Closed → (m : Machine) × RunsFrom origin m × Submits m group (Err refusal) m
+
+-- this state of the machine refuses the group so, and just the groups of the basis are accepted in it
+abbrev pub IsRefusedBy : Machine → Group → Refusal → Beginning → Type 0
+IsRefusedBy m group refusal basis = (basis.groups ≡ m.accepted) × Submits m group (Err refusal) m
 
 -- The machine refuses the group so, over the desk's network and version, once just these groups are accepted.
 pub record IsRefusedAfter (origin : Origin) (groups : List Group) (group : Group) (refusal : Refusal) : Type 0 where
@@ -98,12 +108,13 @@ abbrev pub IsRefusedOn : Origin → Group → Refusal → Option Beginning → T
 IsRefusedOn origin group refusal None = refusal ≡ Closed
 IsRefusedOn origin group refusal (Some basis) = (basis.origin ≡ origin) × IsRefusedAfter origin basis.groups group refusal
 
--- No view of this version is shown, in some state of the machine over the desk's network and version.
+-- No view of this version is shown, and it is not lost, in some state of the machine over the desk's network and version.
 pub record IsNotShown (origin : Origin) (version : ℕ) : Type 0 where
   pub m : Machine
   pub runs : RunsFrom origin m
   pub earlier : m.shown < version
+  pub kept : is_lost m version ≡ false
 
 -- for what one who waited for a version is refused: as above; or it is not shown yet
 abbrev pub IsUnreached : Origin → ℕ → Refusal → Type 0
-IsUnreached origin version refusal = IsUnserved refusal ⊎ ((refusal ≡ NotYet) × IsNotShown origin version)
+IsUnreached origin version refusal = IsUnserved origin version refusal ⊎ ((refusal ≡ NotYet) × IsNotShown origin version)

@@ -1,8 +1,10 @@
-// Waiting until a version is shown, whoever's groups lead to it.
+// Waiting until a number is durable or shown, whoever's groups lead to it.
 ghost use Rattle.std.specs.Prelude.{◌≡◌, ◌≢◌, ◌≤◌, ◌<◌, ◌+◌, length, true, false, IfOk, IfErr};
 ghost use Rattle.std.specs.Option.{ForSome};
 ghost use Rattle.roadnet.specs.declared.refusals.Refusal.TheVariants.{Closed as closed, Broken as broken, NotYet as not_yet};
-ghost use Rattle.desk.specs.Turns.{is_lost, is_unseen, IsUnreached, WereShown};
+ghost use Rattle.machine.specs.Machine.{groups_to};
+ghost use Rattle.std.specs.Timed.{wait_timed_out};
+ghost use Rattle.desk.specs.Turns.{is_lost, is_unseen, is_unsettled, IsUnreached, WereShown};
 
 use crate::gates::Gate;
 use crate::handles::Handle;
@@ -12,8 +14,8 @@ use disk::Disk;
 use office::{Naming, Office};
 use published::Shown;
 use roadnet::Refusal;
-use std::sync::Wait;
 use std::sync::atomic::Ordering;
+use std::sync::{MutexGuard, Wait, WaitTimeoutResult};
 use std::time::Clock;
 
 impl<N: Naming, D: Disk> Held<Office<N, D>> {
@@ -25,6 +27,7 @@ impl<N: Naming, D: Disk> Held<Office<N, D>> {
     pub(crate) fn shown_at(&self, version: u64) -> Result<Shown, Refusal>
         ensures origin { IfOk result (λ shown. shown.origin ≡ N.origin) }
         ensures there { IfOk result (λ shown. version ≤ N.origin.version + length shown.groups) }
+        ensures own { IfOk result (λ shown. ForSome self.now.office (λ office. shown.groups ≡ groups_to office.machine office.machine.shown)) }
         ensures state { IfOk result (λ shown. WereShown N.origin shown.groups) }
         ensures refused { IfErr result (λ _. ForSome self.now.office (λ office. office.machine.shown < version)) }
         ensures lost { IfErr result (λ refusal. refusal ≡ broken → ForSome self.now.office (λ office. is_lost office.machine version ≡ true)) }
@@ -47,7 +50,55 @@ impl<N: Naming, D: Disk> Held<Office<N, D>> {
     }
 }
 
+impl<N: Naming, D: Disk + Drop, G: Gate + Drop, R: Wait + Copy> Handle<N, D, G, R> {
+    /// Waits until this number is durable, or won't be. Meanwhile the caller is counted among those that wait. What lies under the lock then is handed on.
+    pub(crate) fn wait_settled(&self, number: u64) -> MutexGuard<'_, Held<Office<N, D>>>
+        ensures waited { ForSome result.value.office (λ office. is_unsettled office.machine result.value.flusher_ended number ≡ false) }
+    {
+        self.shared.waiting.fetch_add(1, Ordering::SeqCst);
+        let guard = self.shared.flushed.wait_while(
+            &self.rt,
+            self.shared.held.lock(&self.rt),
+            |held: &mut Held<Office<N, D>>| held.is_unsettled(number),
+        );
+        self.shared.waiting.fetch_sub(1, Ordering::SeqCst);
+        guard
+    }
+
+    /// The same until this number is shown, or won't be.
+    pub(crate) fn wait_seen(&self, number: u64) -> MutexGuard<'_, Held<Office<N, D>>>
+        ensures waited { ForSome result.value.office (λ office. is_unseen office.machine result.value.builder_ended number ≡ false) }
+    {
+        self.shared.waiting.fetch_add(1, Ordering::SeqCst);
+        let guard = self.shared.published.wait_while(
+            &self.rt,
+            self.shared.held.lock(&self.rt),
+            |held: &mut Held<Office<N, D>>| held.is_unseen(number),
+        );
+        self.shared.waiting.fetch_sub(1, Ordering::SeqCst);
+        guard
+    }
+}
+
 impl<N: Naming, D: Disk + Drop, G: Gate + Drop, R: Wait + Clock + Copy> Handle<N, D, G, R> {
+    /// The same of a version for at most the time in the desk's setup, and whether that is over: then it may still be shown.
+    fn wait_seen_in_time(
+        &self,
+        version: u64,
+    ) -> (MutexGuard<'_, Held<Office<N, D>>>, WaitTimeoutResult)
+        ensures waited { ForSome result.0.value.office (λ office. is_unseen office.machine result.0.value.builder_ended version ≡ wait_timed_out result.1) }
+    {
+        self.shared.waiting.fetch_add(1, Ordering::SeqCst);
+        let waited = self.shared.published.wait_timeout_while(
+            &self.rt,
+            self.shared.held.lock(&self.rt),
+            self.patience,
+            |held: &mut Held<Office<N, D>>| held.is_unseen(version),
+        );
+        self.shared.waiting.fetch_sub(1, Ordering::SeqCst);
+        waited
+    }
+
     /// Waits until this version or a later one is shown, for at most the time in the desk's setup, and returns what is shown. One may also wait for a
     /// version to which no group leads yet.
     ///
@@ -59,14 +110,7 @@ impl<N: Naming, D: Disk + Drop, G: Gate + Drop, R: Wait + Clock + Copy> Handle<N
         ensures state { IfOk result (λ shown. WereShown N.origin shown.groups) }
         ensures causes { IfErr result (IsUnreached N.origin version) }
     {
-        self.shared.waiting.fetch_add(1, Ordering::SeqCst);
-        let (guard, _) = self.shared.published.wait_timeout_while(
-            &self.rt,
-            self.shared.held.lock(&self.rt),
-            self.patience,
-            |held: &mut Held<Office<N, D>>| held.is_unseen(version),
-        );
-        self.shared.waiting.fetch_sub(1, Ordering::SeqCst);
+        let (guard, _) = self.wait_seen_in_time(version);
         guard.shown_at(version)
     }
 }

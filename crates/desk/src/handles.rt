@@ -5,11 +5,10 @@ ghost use Rattle.machine.specs.Laws.{IsAt};
 ghost use Rattle.roadnet.specs.Net.{IsNode};
 ghost use Rattle.rows.specs.declared.queries.Query.TheVariants.{Dist};
 ghost use Rattle.rows.specs.Replies.{refusal_of, IsDistance, IsRight};
-ghost use Rattle.desk.specs.Readings.{IsNoReader, IsViewAfter};
+ghost use Rattle.desk.specs.Readings.{IsNoPlace, IsNoReader, IsViewAfter};
 ghost use Rattle.desk.specs.Turns.{IsRefusedOn, IsUnserved, IsUntaken, WereShown};
 
 use crate::gates::Gate;
-use crate::held::Held;
 use crate::places::{Glance, Place};
 use crate::readers::Reader;
 use crate::refused::Refused;
@@ -106,16 +105,9 @@ impl<N: Naming, D: Disk + Drop, G: Gate + Drop, R: Wait + Copy> Handle<N, D, G, 
         requires { ticket.origin ≡ N.origin }
         ensures receipt { IfOk result (λ receipt. receipt ≡ ticket) }
         ensures handed_back { IfErr result (λ refused. refused.1 ≡ ticket) }
-        ensures causes { IfErr result (λ refused. IsUnserved refused.0) }
+        ensures causes { IfErr result (λ refused. IsUnserved N.origin ticket.ticket.number refused.0) }
     {
-        let number = ticket.ticket().number;
-        self.shared.waiting.fetch_add(1, Ordering::SeqCst);
-        let mut guard = self.shared.flushed.wait_while(
-            &self.rt,
-            self.shared.held.lock(&self.rt),
-            |held: &mut Held<Office<N, D>>| held.is_unsettled(number),
-        );
-        self.shared.waiting.fetch_sub(1, Ordering::SeqCst);
+        let mut guard = self.wait_settled(ticket.ticket().number);
         guard.settle(ticket)
     }
 
@@ -127,16 +119,9 @@ impl<N: Naming, D: Disk + Drop, G: Gate + Drop, R: Wait + Copy> Handle<N, D, G, 
         ensures origin { IfOk result (λ front. front.origin ≡ N.origin) }
         ensures begins { IfOk result (λ front. IsPrefix basis.now.groups front.groups) }
         ensures acknowledged { IfOk result (λ front. N.origin.version + length basis.now.groups ≤ front.acknowledged) }
-        ensures causes { IfErr result IsUnserved }
+        ensures causes { IfErr result (IsUnserved N.origin (N.origin.version + length basis.now.groups)) }
     {
-        let version = basis.version();
-        self.shared.waiting.fetch_add(1, Ordering::SeqCst);
-        let mut guard = self.shared.flushed.wait_while(
-            &self.rt,
-            self.shared.held.lock(&self.rt),
-            |held: &mut Held<Office<N, D>>| held.is_unsettled(version),
-        );
-        self.shared.waiting.fetch_sub(1, Ordering::SeqCst);
+        let mut guard = self.wait_settled(basis.version());
         guard.settle_basis(basis)
     }
 
@@ -148,16 +133,9 @@ impl<N: Naming, D: Disk + Drop, G: Gate + Drop, R: Wait + Copy> Handle<N, D, G, 
         ensures origin { IfOk result (λ shown. shown.origin ≡ N.origin) }
         ensures there { IfOk result (λ shown. IsAt N.origin.version shown.groups ticket.now.ticket) }
         ensures state { IfOk result (λ shown. WereShown N.origin shown.groups) }
-        ensures causes { IfErr result IsUnserved }
+        ensures causes { IfErr result (IsUnserved N.origin ticket.now.ticket.number) }
     {
-        let number = ticket.ticket().number;
-        self.shared.waiting.fetch_add(1, Ordering::SeqCst);
-        let guard = self.shared.published.wait_while(
-            &self.rt,
-            self.shared.held.lock(&self.rt),
-            |held: &mut Held<Office<N, D>>| held.is_unseen(number),
-        );
-        self.shared.waiting.fetch_sub(1, Ordering::SeqCst);
+        let guard = self.wait_seen(ticket.ticket().number);
         guard.shown_since(ticket)
     }
 
@@ -178,7 +156,7 @@ impl<N: Naming, D: Disk + Drop, G: Gate + Drop, R: Wait + Copy> Handle<N, D, G, 
     ///
     /// It fails with 60 if no free place is found, as `reader` does, and with 61 if the desk is closed.
     pub fn place(&self) -> Result<Place<N>, Refusal>
-        ensures { IfErr result IsNoReader }
+        ensures { IfErr result IsNoPlace }
     {
         let reader = self.shared.held.lock(&self.rt).reader()?;
         Ok(Place::new(reader))

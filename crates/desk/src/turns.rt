@@ -1,14 +1,16 @@
 // What the threads of a desk and its callers are to do, by the numbers of what lies under its lock.
-ghost use Rattle.std.specs.Prelude.{◌≡◌, ◌≢◌, ◌≤◌, ◌<◌, ◌+◌, length, Err, None, false, true, IfOk, IfErr, IsOk, IsSome, OnOk};
+ghost use Rattle.std.specs.Prelude.{◌≡◌, ◌≤◌, ◌<◌, ◌+◌, length, Ok, Err, None, false, true, IfOk, IfErr, IsOk, IsSome, OnErr, OnOk};
 ghost use Rattle.std.specs.Option.{ForSome};
 ghost use mathlib.Core.List.{IsPrefix};
-ghost use Rattle.roadnet.specs.declared.refusals.Refusal.TheVariants.{Closed as closed, Broken as broken};
+ghost use Rattle.roadnet.specs.declared.refusals.Refusal.TheVariants.{Closed as closed, Broken as broken, NoReaderPlace as no_reader_place};
+ghost use Rattle.machine.specs.Calls.{Submits};
 ghost use Rattle.machine.specs.Laws.{IsAt};
+ghost use Rattle.machine.specs.Machine.{groups_to};
 ghost use Rattle.office.specs.Offices.{RunsFrom};
 ghost use Rattle.desk.specs.declared.turns.FlusherTurn.TheVariants.{End as flusher_end};
 ghost use Rattle.desk.specs.declared.turns.BuilderTurn.TheVariants.{End as builder_end};
-ghost use Rattle.desk.specs.Readings.{IsNoReader};
-ghost use Rattle.desk.specs.Turns.{is_checkpoint_due, flusher_turn_of, builder_turn_of, is_unsettled, is_lost, is_unseen, IsRefusedOn, IsUnserved, WereShown};
+ghost use Rattle.desk.specs.Readings.{IsNoPlace};
+ghost use Rattle.desk.specs.Turns.{is_checkpoint_due, flusher_turn_of, builder_turn_of, is_unsettled, is_lost, is_unseen, IsRefusedBy, IsRefusedOn, IsUnserved, WereShown};
 
 use crate::held::Held;
 use crate::refused::Refused;
@@ -60,15 +62,17 @@ pub(crate) fn is_lost<N: Naming, D: Disk>(office: &Office<N, D>, number: u64) ->
     office.durable() < number && office.broken()
 }
 
-/// Why a number that a caller waits for does not become durable.
-fn unserved<N: Naming, D: Disk>(office: &Office<N, D>) -> Refusal
-    ensures { IsUnserved result }
+/// Why a caller that waited for a number does not get it: it is lost (45), or the thread that was waited for has ended (61).
+fn unserved<N: Naming, D: Disk>(office: &Office<N, D>, number: u64) -> Refusal
+    ensures lost { result ≡ broken → is_lost office.now.machine number ≡ true }
+    ensures ended { result ≡ closed → is_lost office.now.machine number ≡ false }
+    ensures causes { IsUnserved N.origin number result }
 {
-    if office.broken() {
-        Refusal::Broken
-    } else {
-        Refusal::Closed
+    runs(office);
+    if is_lost(office, number) {
+        return Refusal::Broken;
     }
+    Refusal::Closed
 }
 
 impl<N: Naming, D: Disk> Held<Office<N, D>> {
@@ -159,8 +163,13 @@ impl<N: Naming, D: Disk> Held<Office<N, D>> {
         ensures group { IfOk result (λ ticket. ticket.ticket.group ≡ group) }
         ensures halted { OnOk result (self.old.halted ≡ false) }
         ensures taken { OnOk result (IsSome self.old.office) }
+        // It is a step of the machine of this office.
+        ensures accepted { IfOk result (λ ticket. ForSome self.old.office (λ was. ForSome self.new.office (λ is. Submits was.machine group (Ok ticket.ticket) is.machine))) }
         ensures refused { IfErr result (λ refused. IsRefusedOn N.origin group refused.refusal refused.basis) }
+        // What is refused on a basis the machine of this office refuses, after the groups that it has accepted.
+        ensures own { IfErr result (λ refused. ForSome refused.basis (λ basis. ForSome self.old.office (λ office. IsRefusedBy office.machine group refused.refusal basis))) }
         ensures basis { IfErr result (λ refused. IsSome self.old.office → self.old.halted ≡ false → IsSome refused.basis) }
+        ensures same { OnErr result (self.new.office ≡ self.old.office) }
     {
         let Some(office) = &mut self.office else {
             return Err(Refused::closed());
@@ -178,16 +187,19 @@ impl<N: Naming, D: Disk> Held<Office<N, D>> {
         }
     }
 
-    /// A beginning of the desk's history that has the groups of a basis, as acknowledged, where they are durable.
+    /// A beginning of the desk's history that has the groups of a basis, as acknowledged, where they are durable. Who calls it has waited for them.
     ///
     /// Refused is a basis that isn't: with 45 where the store is broken, else with 61. Refused so is an office that was taken out (61).
     pub(crate) fn settle_basis(&mut self, basis: &Basis) -> Result<Front, Refusal>
-        requires { basis.now.origin ≡ N.origin }
+        requires origin { basis.now.origin ≡ N.origin }
+        requires waited { ForSome self.old.office (λ office. is_unsettled office.machine self.old.flusher_ended (N.origin.version + length basis.now.groups) ≡ false) }
         ensures origin { IfOk result (λ front. front.origin ≡ N.origin) }
         ensures begins { IfOk result (λ front. IsPrefix basis.now.groups front.groups) }
         ensures acknowledged { IfOk result (λ front. N.origin.version + length basis.now.groups ≤ front.acknowledged) }
         ensures refused { IfErr result (λ _. ForSome self.old.office (λ office. office.machine.durable < N.origin.version + length basis.now.groups)) }
-        ensures causes { IfErr result IsUnserved }
+        ensures lost { IfErr result (λ refusal. refusal ≡ broken → ForSome self.old.office (λ office. is_lost office.machine (N.origin.version + length basis.now.groups) ≡ true)) }
+        ensures ended { IfErr result (λ refusal. refusal ≡ closed → ForSome self.old.office (λ office. (is_lost office.machine (N.origin.version + length basis.now.groups) ≡ false) × (self.old.flusher_ended ≡ true))) }
+        ensures causes { IfErr result (IsUnserved N.origin (N.origin.version + length basis.now.groups)) }
         ensures taken { self.old.office ≡ None → result ≡ Err closed }
         ensures same { self.new.office ≡ self.old.office }
     {
@@ -196,23 +208,25 @@ impl<N: Naming, D: Disk> Held<Office<N, D>> {
         };
         match office.acknowledge(basis) {
             Some(front) => Ok(front),
-            None => Err(unserved(office)),
+            None => Err(unserved(office, basis.version())),
         }
     }
 
-    /// A receipt for the ticket, where its group is durable.
+    /// A receipt for the ticket, where its group is durable. Who calls it has waited for that.
     ///
     /// Refused is a number that isn't: with 45 where the store is broken, else with 61, which so is told of no group that is lost. Refused so is an
     /// office that was taken out (61). The ticket is handed back then.
     pub(crate) fn settle(&mut self, ticket: Ticket) -> Result<Receipt, (Refusal, Ticket)>
-        requires { ticket.origin ≡ N.origin }
+        requires origin { ticket.origin ≡ N.origin }
+        requires waited { ForSome self.old.office (λ office. is_unsettled office.machine self.old.flusher_ended ticket.ticket.number ≡ false) }
         ensures receipt { IfOk result (λ receipt. receipt ≡ ticket) }
         ensures durable { OnOk result (ForSome self.old.office (λ office. ticket.ticket.number ≤ office.machine.durable)) }
         ensures served { ForSome self.old.office (λ office. ticket.ticket.number ≤ office.machine.durable → IsOk result) }
-        ensures refused { IfErr result (λ refused. refused.0 ≢ closed → (refused.0 ≡ broken) × ForSome self.old.office (λ office. office.machine.broken ≡ true)) }
-        ensures ended { IfErr result (λ refused. refused.0 ≡ closed → ForSome self.old.office (λ office. is_lost office.machine ticket.ticket.number ≡ false)) }
+        ensures refused { IfErr result (λ _. ForSome self.old.office (λ office. office.machine.durable < ticket.ticket.number)) }
+        ensures lost { IfErr result (λ refused. refused.0 ≡ broken → ForSome self.old.office (λ office. is_lost office.machine ticket.ticket.number ≡ true)) }
+        ensures ended { IfErr result (λ refused. refused.0 ≡ closed → ForSome self.old.office (λ office. (is_lost office.machine ticket.ticket.number ≡ false) × (self.old.flusher_ended ≡ true))) }
         ensures handed_back { IfErr result (λ refused. refused.1 ≡ ticket) }
-        ensures causes { IfErr result (λ refused. IsUnserved refused.0) }
+        ensures causes { IfErr result (λ refused. IsUnserved N.origin ticket.ticket.number refused.0) }
         ensures taken { self.old.office ≡ None → result ≡ Err (closed, ticket) }
         ensures same { self.new.office ≡ self.old.office }
     {
@@ -221,43 +235,39 @@ impl<N: Naming, D: Disk> Held<Office<N, D>> {
         };
         match office.receipt(ticket) {
             Ok(receipt) => Ok(receipt),
-            Err((Refusal::Broken, ticket)) => Err((Refusal::Broken, ticket)),
-            Err((_, ticket)) => Err((Refusal::Closed, ticket)),
+            Err((_, ticket)) => Err((unserved(office, ticket.ticket().number), ticket)),
         }
     }
 
-    /// What is shown, where that is the ticket's group or behind it.
+    /// What is shown, where that is the ticket's group or behind it. Who calls it has waited for that.
     ///
     /// Refused is a view that isn't shown: with 45 where the store is broken and the group is not durable, else with 61. Refused so is an office that was
     /// taken out (61).
     pub(crate) fn shown_since(&self, ticket: &Ticket) -> Result<Shown, Refusal>
-        requires { ticket.now.origin ≡ N.origin }
+        requires origin { ticket.now.origin ≡ N.origin }
+        requires waited { ForSome self.now.office (λ office. is_unseen office.machine self.now.builder_ended ticket.now.ticket.number ≡ false) }
         ensures origin { IfOk result (λ shown. shown.origin ≡ N.origin) }
         ensures there { IfOk result (λ shown. IsAt N.origin.version shown.groups ticket.now.ticket) }
+        ensures own { IfOk result (λ shown. ForSome self.now.office (λ office. shown.groups ≡ groups_to office.machine office.machine.shown)) }
         ensures state { IfOk result (λ shown. WereShown N.origin shown.groups) }
         ensures refused { IfErr result (λ _. ForSome self.now.office (λ office. office.machine.shown < ticket.now.ticket.number)) }
-        ensures lost { IfErr result (λ refusal. refusal ≢ closed → (refusal ≡ broken) × ForSome self.now.office (λ office. is_lost office.machine ticket.now.ticket.number ≡ true)) }
-        ensures causes { IfErr result IsUnserved }
-        ensures ended { IfErr result (λ refusal. refusal ≡ closed → ForSome self.now.office (λ office. is_lost office.machine ticket.now.ticket.number ≡ false)) }
+        ensures lost { IfErr result (λ refusal. refusal ≡ broken → ForSome self.now.office (λ office. is_lost office.machine ticket.now.ticket.number ≡ true)) }
+        ensures ended { IfErr result (λ refusal. refusal ≡ closed → ForSome self.now.office (λ office. (is_lost office.machine ticket.now.ticket.number ≡ false) × (self.now.builder_ended ≡ true))) }
+        ensures causes { IfErr result (IsUnserved N.origin ticket.now.ticket.number) }
     {
         let office = self.there()?;
         runs(office);
         match office.shown_since(ticket) {
             Some(shown) => Ok(shown),
-            None => {
-                if is_lost(office, ticket.ticket().number) {
-                    Err(Refusal::Broken)
-                } else {
-                    Err(Refusal::Closed)
-                }
-            }
+            None => Err(unserved(office, ticket.ticket().number)),
         }
     }
 
-    /// A reader of the readers' copy. Refused, besides, is an office that was taken out (61).
+    /// A reader of the readers' copy. Refused is one for which no free place is found (60), and an office that was taken out (61).
     pub(crate) fn reader(&mut self) -> Result<Reader, Refusal>
         ensures origin { IfOk result (λ reader. reader.origin ≡ N.origin) }
-        ensures causes { IfErr result IsNoReader }
+        ensures causes { IfErr result IsNoPlace }
+        ensures full { IsSome self.old.office → IfErr result (λ refusal. refusal ≡ no_reader_place) }
         ensures taken { self.old.office ≡ None → result ≡ Err closed }
     {
         match &mut self.office {

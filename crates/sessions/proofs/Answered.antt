@@ -118,9 +118,9 @@ carried_durable origin receipt before had has group number of_origin is_number i
 }
 
 pub carried_unsettled : (origin : Origin) (ticket : Claimed) (before : Option Accepted) (had has : Option Beginning) (group : Group) (refusal : Refusal) → ticket.origin ≡ origin → ticket.ticket.group ≡ group → has ≡ had
-    → IsUnserved refusal → Carried origin before (Some (Unsettled ticket)) had has group (told_refused refusal)
+    → IsUnserved origin ticket.ticket.number refusal → Carried origin before (Some (Unsettled ticket)) had has group (told_refused refusal)
 carried_unsettled origin ticket before had has group refusal of_origin is_group same unserved =
-    record { durable = []; settles = inr ((of_origin, is_group), unserved, refl); kept = nothing_more origin had has same }
+    record { durable = []; settles = inr ((of_origin, is_group, unserved), refl); kept = nothing_more origin had has same }
 
 pub carried_declined : (origin : Origin) (before last : Option Accepted) (had has : Option Beginning) (group : Group) (refusal : Refusal) → last ≡ before → IsDeclined origin had has group refusal
     → Carried origin before last had has group (told_refused refusal)

@@ -67,8 +67,13 @@ pub declined_closed : (origin : Origin) (had has : Option Beginning) (group : Gr
 declined_closed origin had has group refusal same is = record { durable = []; turned_down = inr (inr is, refl); kept = nothing_more origin had has same }
 
 -- where what it rests on is not settled
-pub declined_unsettled : (origin : Origin) (had has : Option Beginning) (group : Group) (refusal : Refusal) → has ≡ had → IsUnserved refusal → IsDeclined origin had has group refusal
-declined_unsettled origin had has group refusal same unserved = record { durable = []; turned_down = inr (unserved, refl); kept = nothing_more origin had has same }
+pub declined_unsettled : (origin : Origin) (had has : Option Beginning) (group : Group) (first refusal : Refusal) (basis : Beginning) → has ≡ had → IsRefusedOn origin group first (Some basis)
+    → IsUnserved origin (origin.version + length basis.groups) refusal → IsDeclined origin had has group refusal
+declined_unsettled origin had has group first refusal basis same refused unserved = record {
+  durable = [];
+  turned_down = inr (inl (record { groups = basis.groups; first = first; refused = refused.1; unserved = unserved }), refl);
+  kept = nothing_more origin had has same;
+}
 
 -- where what it rests on is settled
 pub declined_settled : (origin : Origin) (had has : Option Beginning) (group : Group) (refusal : Refusal) (basis front : Beginning) → front.origin ≡ origin → IsRefusedOn origin group refusal (Some basis)

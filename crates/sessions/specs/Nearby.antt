@@ -12,11 +12,11 @@ use Rattle.history.specs.Origins.{Origin}
 use Rattle.rows.specs.declared.nearby.Near.{Near}
 use Rattle.rows.specs.declared.nearby.Near.TheVariants.{Reach, Reached, Nearest}
 use Rattle.rows.specs.Nearby.{are_pairs, node_of, IsNear, IsUntold}
-use Rattle.desk.specs.Readings.{IsNoReader}
 use Rattle.printing.specs.Nodes.{nearest_lines, pair_lines, reach_lines, reached_lines}
 use Rattle.printing.specs.Printed.{refusal_line, version_line}
 use Rattle.sessions.specs.declared.finding.Heading.TheVariants.{Shown}
 use Rattle.sessions.specs.Headings.{untold_lines}
+use Rattle.sessions.specs.Told.{IsUnsighted}
 
 -- the lines of what is found near a node
 abbrev pub near_lines : Near → List NodeDistance → List ℕ
@@ -40,4 +40,4 @@ IsTableAnswer pairs net version told =
 abbrev pub IsToldAfter : Origin → List Group → (Net → ℕ → List ℕ → Type 0) → List ℕ → Type 0
 IsToldAfter origin groups IsAnswer told =
     ((network : Net) × (after origin.base groups ≡ Some network) × IsAnswer network (origin.version + length groups) told)
-    ⊎ ((refusal : Refusal) × IsNoReader refusal × (told ≡ refusal_line (number_of refusal)))
+    ⊎ ((refusal : Refusal) × IsUnsighted groups refusal × (told ≡ refusal_line (number_of refusal)))

@@ -23,7 +23,6 @@ use Rattle.rows.specs.Views.{AreRight}
 use Rattle.deltastep.specs.declared.known.NodeDistance.{NodeDistance}
 use Rattle.rows.specs.declared.nearby.Near.{Near}
 use Rattle.rows.specs.Nearby.{node_of, IsNear, IsUntold}
-use Rattle.desk.specs.Readings.{IsNoReader}
 use Rattle.printing.specs.Nodes.{pair_lines}
 use Rattle.printing.specs.Printed.{answer_line, refusal_line}
 use Rattle.printing.specs.Replied.{number_line}
@@ -31,6 +30,7 @@ use Rattle.suppositions.specs.Supposing.{Supposition, Supposes, IsUnanswered}
 use Rattle.sessions.specs.declared.finding.Heading.TheVariants.{Supposed}
 use Rattle.sessions.specs.Headings.{supposed_line, untold_lines}
 use Rattle.sessions.specs.Nearby.{near_lines}
+use Rattle.sessions.specs.Told.{IsUnsighted}
 use Rattle.session_lines.specs.Tables.{pairs_of}
 
 -- the desk's network after these groups, with the group carried out, under the version after these groups
@@ -47,7 +47,7 @@ pub record RefusesAfter (origin : Origin) (groups : List Group) (group : Group) 
 
 -- why nothing is supposed: that, or that there is no view to look at (60, 11, 61)
 abbrev pub IsUnsupposed : Origin → List Group → Group → Refusal → Type 0
-IsUnsupposed origin groups group refusal = RefusesAfter origin groups group refusal ⊎ IsNoReader refusal
+IsUnsupposed origin groups group refusal = RefusesAfter origin groups group refusal ⊎ IsUnsighted groups refusal
 
 -- `suppose V`
 abbrev pub suppose_line : ℕ → List ℕ

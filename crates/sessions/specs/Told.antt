@@ -3,7 +3,7 @@ use Rattle.std.specs.Prelude.{◌≡◌, ◌⊎◌, ℕ, ◌+◌, ◌≤◌, tru
 use mathlib.Core.List.{IsPrefix}
 use Rattle.roadnet.specs.declared.groups.Group.{Group}
 use Rattle.roadnet.specs.declared.refusals.Refusal.{Refusal}
-use Rattle.roadnet.specs.declared.refusals.Refusal.TheVariants.{Read, Write}
+use Rattle.roadnet.specs.declared.refusals.Refusal.TheVariants.{Closed, NoReaderPlace, Read, Write}
 use Rattle.roadnet.specs.Net.{Net}
 use Rattle.roadnet.specs.Numbers.{number_of}
 use Rattle.roadnet.specs.Step.{after}
@@ -16,7 +16,7 @@ use Rattle.machine.specs.declared.events.Replied.TheVariants.{Durable, Answered,
 use Rattle.machine.specs.Laws.{IsAt}
 use Rattle.history.specs.Claims.{Claimed, IsAcknowledgedIn}
 use Rattle.history.specs.Origins.{Origin, Beginning}
-use Rattle.desk.specs.Readings.{IsNoReader}
+use Rattle.published.specs.Showing.{IsUnseen}
 use Rattle.desk.specs.Turns.{IsRefusedAfter, IsRefusedOn, IsUnreached, IsUnserved}
 use Rattle.dimacs.specs.Counts.{one_more_failed}
 use Rattle.printing.specs.declared.failed.Failed.{Failed}
@@ -60,10 +60,10 @@ HasReceipt origin (Some (Settled receipt)) number group =
     (receipt.origin ≡ origin) × (receipt.ticket.number ≡ number) × (receipt.ticket.group ≡ group)
 HasReceipt origin other number group = ⊥
 
--- the last accepted group of the session is this one, which was not settled
-abbrev pub IsUnsettled : Origin → Option Accepted → Group → Type 0
-IsUnsettled origin (Some (Unsettled ticket)) group = (ticket.origin ≡ origin) × (ticket.ticket.group ≡ group)
-IsUnsettled origin other group = ⊥
+-- the last accepted group of the session is this one, which was not settled for this: it is lost (45), or the desk has ended (61)
+abbrev pub IsUnsettled : Origin → Option Accepted → Group → Refusal → Type 0
+IsUnsettled origin (Some (Unsettled ticket)) group refusal = (ticket.origin ≡ origin) × (ticket.ticket.group ≡ group) × IsUnserved origin ticket.ticket.number refusal
+IsUnsettled origin other group refusal = ⊥
 
 -- The machine refuses a group so after groups of which each is told to be durable.
 pub record RestsOn (origin : Origin) (group : Group) (refusal : Refusal) (durable : List Ticket) : Type 0 where
@@ -71,14 +71,21 @@ pub record RestsOn (origin : Origin) (group : Group) (refusal : Refusal) (durabl
   pub refused : IsRefusedAfter origin groups group refusal
   pub all : durable ≡ numbered origin.version groups
 
--- for what a group is refused that was not accepted, and what that tells to be durable: what it rests on is; or the desk takes no more, or what it rests on is not settled (45, 61)
+-- The machine refuses a group after groups that are not settled for this: they are lost (45), or the desk has ended (61).
+pub record RestsOnUnsettled (origin : Origin) (group : Group) (refusal : Refusal) : Type 0 where
+  pub groups : List Group
+  pub first : Refusal
+  pub refused : IsRefusedAfter origin groups group first
+  pub unserved : IsUnserved origin (origin.version + length groups) refusal
+
+-- for what a group is refused that was not accepted, and what that tells to be durable: what it rests on is; or that is not settled; or the desk takes no more (61)
 abbrev pub IsTurnedDown : Origin → Group → Refusal → List Ticket → Type 0
-IsTurnedDown origin group refusal durable = RestsOn origin group refusal durable ⊎ (IsUnserved refusal × (durable ≡ []))
+IsTurnedDown origin group refusal durable = RestsOn origin group refusal durable ⊎ ((RestsOnUnsettled origin group refusal ⊎ (refusal ≡ Closed)) × (durable ≡ []))
 
 -- the same of a group that was not accepted, or was and is not settled (45, 61)
 abbrev pub IsRefusedFor : Origin → Option Accepted → Option Accepted → Group → Refusal → List Ticket → Type 0
 IsRefusedFor origin before last group refusal durable =
-    ((last ≡ before) × IsTurnedDown origin group refusal durable) ⊎ (IsUnsettled origin last group × IsUnserved refusal × (durable ≡ []))
+    ((last ≡ before) × IsTurnedDown origin group refusal durable) ⊎ (IsUnsettled origin last group refusal × (durable ≡ []))
 
 -- what a group is told, and what that tells to be durable: its number, of which the session has a receipt; or for what it is refused
 abbrev pub Settles : Origin → Option Accepted → Option Accepted → Group → Replied → List Ticket → Type 0
@@ -109,10 +116,15 @@ pub record AnswersAfter (origin : Origin) (groups : List Group) (query : Query) 
   pub version : answer.version ≡ origin.version + length groups
   pub right : IsRight network query answer.reply
 
+-- why a session that knows these groups sees no view: it knows none, since it has no place among the readers, and none was found free (60); or it was refused
+-- a look (11, 61)
+abbrev pub IsUnsighted : List Group → Refusal → Type 0
+IsUnsighted groups refusal = ((refusal ≡ NoReaderPlace) × (groups ≡ [])) ⊎ IsUnseen refusal
+
 -- what a query is told: an answer after these groups, or that there is no view to ask, or no memory for it (60, 11, 61)
 abbrev pub Replies : Origin → List Group → Query → Replied → Type 0
 Replies origin groups query (Answered asked answer) = (asked ≡ query) × AnswersAfter origin groups query answer
-Replies origin groups query (Refused refusal) = IsNoReader refusal
+Replies origin groups query (Refused refusal) = IsUnsighted groups refusal
 Replies origin groups query other = ⊥
 
 -- what a look is told: what the desk's network after these groups has, behind the version after them
@@ -123,7 +135,7 @@ pub record LooksAfter (origin : Origin) (groups : List Group) (look : Look) (tol
 
 -- or that there is no view to look at (60, 11, 61)
 abbrev pub IsLooked : Origin → List Group → Look → List ℕ → Type 0
-IsLooked origin groups look told = LooksAfter origin groups look told ⊎ ((refusal : Refusal) × IsNoReader refusal × (told ≡ refusal_line (number_of refusal)))
+IsLooked origin groups look told = LooksAfter origin groups look told ⊎ ((refusal : Refusal) × IsUnsighted groups refusal × (told ≡ refusal_line (number_of refusal)))
 
 -- `copied V`
 abbrev pub copied_line : ℕ → List ℕ
@@ -142,14 +154,14 @@ pub record CopiesAfter (copying : Copying) (origin : Origin) (groups : List Grou
   pub told_is : told ≡ copied_line (origin.version + length groups)
 
 -- why there is no copy: no view to make it of (60, 11, 61), or that it is not made (46, 43, 10, 11)
-abbrev pub IsUncopied : Refusal → Type 0
-IsUncopied refusal = IsNoReader refusal ⊎ IsUnmade refusal
+abbrev pub IsUncopied : List Group → Refusal → Type 0
+IsUncopied groups refusal = IsUnsighted groups refusal ⊎ IsUnmade refusal
 
 -- what a line `copy` is told: the version of the copy, or why there is none; where no copies are made, that it is no line (1)
 abbrev pub IsCopied : Copying → Origin → List Group → List ℕ → List ℕ → Type 0
 IsCopied copying origin groups name told =
     ((copying.allowed ≡ false) × (told ≡ refusal_line 1))
-    ⊎ ((copying.allowed ≡ true) × (CopiesAfter copying origin groups name told ⊎ ((refusal : Refusal) × IsUncopied refusal × (told ≡ refusal_line (number_of refusal)))))
+    ⊎ ((copying.allowed ≡ true) × (CopiesAfter copying origin groups name told ⊎ ((refusal : Refusal) × IsUncopied groups refusal × (told ≡ refusal_line (number_of refusal)))))
 
 -- the groups that a session has seen or was told of at its place among the readers, if it has one
 abbrev pub known_to : Option Beginning → List Group
@@ -173,13 +185,18 @@ ShowsLast origin (Some accepted) groups version =
 abbrev pub IsReached : Origin → ℕ → List Group → ℕ → Type 0
 IsReached origin number groups version = (number ≤ version) × (version ≡ origin.version + length groups)
 
--- why a session that waits is shown nothing: its group will not be settled (45, 61), or there is no view to look at (60, 11, 61)
-abbrev pub IsUnshown : Refusal → Type 0
-IsUnshown refusal = IsUnserved refusal ⊎ IsNoReader refusal
+-- the last accepted group of a session, if there is one, is not shown for this: it is lost (45), or the desk has ended (61)
+abbrev pub IsLastUnserved : Origin → Option Accepted → Refusal → Type 0
+IsLastUnserved origin None refusal = ⊥
+IsLastUnserved origin (Some accepted) refusal = IsUnserved origin (claim_of accepted).ticket.number refusal
+
+-- why a session that waits is shown nothing: that, or there is no view to look at (60, 11, 61)
+abbrev pub IsUnshown : Origin → Option Accepted → List Group → Refusal → Type 0
+IsUnshown origin last groups refusal = IsLastUnserved origin last refusal ⊎ IsUnsighted groups refusal
 
 -- why a session that waits for a version is shown none: it will not be shown (45, 61) or is not yet (54), or there is no view to look at (60, 11, 61)
-abbrev pub IsUnmet : Origin → ℕ → Refusal → Type 0
-IsUnmet origin number refusal = IsUnreached origin number refusal ⊎ IsNoReader refusal
+abbrev pub IsUnmet : Origin → ℕ → List Group → Refusal → Type 0
+IsUnmet origin number groups refusal = IsUnreached origin number refusal ⊎ IsUnsighted groups refusal
 
 -- the reader's count of failed calls is one more where a failed read is told, and else as it was
 abbrev pub CountsRead : {X : Type 0} → ℕ → ℕ → Result X Failed → Type 0

@@ -147,9 +147,9 @@ IsTold copying origin was known (a_table table) told = IsTabled origin known was
 IsTold copying origin was known (a_look look) told = IsLooked origin known look told
 IsTold copying origin was known (Copy name) told = IsCopied copying origin known (name_of name) told
 IsTold copying origin was known Wait told =
-    (shown : Result ℕ Refusal) × IfOk shown (ShowsLast origin was.last known) × IfErr shown IsUnshown × (told ≡ version_or_refusal shown)
+    (shown : Result ℕ Refusal) × IfOk shown (ShowsLast origin was.last known) × IfErr shown (IsUnshown origin was.last known) × (told ≡ version_or_refusal shown)
 IsTold copying origin was known (Until number) told =
-    (shown : Result ℕ Refusal) × IfOk shown (IsReached origin number known) × IfErr shown (IsUnmet origin number) × (told ≡ version_or_refusal shown)
+    (shown : Result ℕ Refusal) × IfOk shown (IsReached origin number known) × IfErr shown (IsUnmet origin number known) × (told ≡ version_or_refusal shown)
 IsTold copying origin was known State told =
     (stood : Result DeskState Refusal) × IfOk stood (StoodSo origin) × IfErr stood (λ refusal. refusal ≡ Closed) × (told ≡ state_or_refusal stood)
 IsTold copying origin was known Unkept told = told ≡ refusal_line (number_of OutOfMemory)

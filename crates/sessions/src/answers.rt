@@ -1,7 +1,7 @@
 //! What a session answers to its lines.
 ghost use Rattle.std.specs.Prelude.{◌≡◌, None, IfOk, IfErr, OnOk};
 ghost use mathlib.Core.List.{IsPrefix};
-ghost use Rattle.desk.specs.Turns.{IsUnserved};
+ghost use Rattle.sessions.specs.Told.{IsLastUnserved};
 ghost use Rattle.printing.specs.Writers.{OnlyWriterFails};
 ghost use Rattle.sessions.specs.Saying.{PutsSo, Says, Stays};
 ghost use Rattle.sessions.specs.Told.{known_to, HasShown, IsUnshown, ShowsLast};
@@ -32,7 +32,7 @@ impl<N: Naming> Session<N> {
     /// What was shown when the session's last accepted group was; nothing if it has none.
     fn shown<H: DeskCalls<N>>(&self, desk: &H) -> Result<Option<Shown>, Refusal>
         ensures shown { IfOk result (λ shown. HasShown N.origin self.now.last shown) }
-        ensures causes { IfErr result IsUnserved }
+        ensures causes { IfErr result (IsLastUnserved N.origin self.now.last) }
     {
         match &self.last {
             None => Ok(None),
@@ -44,7 +44,7 @@ impl<N: Naming> Session<N> {
     /// which that group has its number.
     fn wait<H: DeskCalls<N>>(&mut self, desk: &H) -> Result<u64, Refusal>
         ensures shown { IfOk result (ShowsLast N.origin self.old.last (known_to self.new.place)) }
-        ensures causes { IfErr result IsUnshown }
+        ensures causes { IfErr result (IsUnshown N.origin self.old.last (known_to self.new.place)) }
         ensures stays { Stays self.old self.new }
     {
         let shown = self.shown(desk)?;

@@ -3,11 +3,10 @@ ghost use Rattle.std.specs.Prelude.{◌≡◌, IfOk, IfErr};
 ghost use mathlib.Core.List.{IsPrefix};
 ghost use Rattle.published.specs.Showing.{IsUnseen};
 ghost use Rattle.rows.specs.Replies.{IsRight};
-ghost use Rattle.desk.specs.Readings.{IsNoReader};
 ghost use Rattle.session_lines.specs.SessionLines.{name_of};
 ghost use Rattle.sessions.specs.Copying.{IsUnmade};
 ghost use Rattle.sessions.specs.Saying.{PutsSo};
-ghost use Rattle.sessions.specs.Told.{known_to, AnswersAfter, IsCopied, IsLooked, Replies};
+ghost use Rattle.sessions.specs.Told.{known_to, AnswersAfter, IsCopied, IsLooked, IsUnsighted, Replies};
 
 use crate::copies::Copies;
 use crate::desk_calls::DeskCalls;
@@ -50,7 +49,7 @@ fn answer_by<N: Naming, H: DeskCalls<N>>(
     query: Query,
 ) -> Result<Answer, Refusal>
     ensures right { IfOk result (AnswersAfter N.origin (known_to place.new) query) }
-    ensures causes { IfErr result IsNoReader }
+    ensures causes { IfErr result (IsUnsighted (known_to place.new)) }
     ensures begins { IsPrefix (known_to place.old) (known_to place.new) }
 {
     let glance = see(place, desk)?;

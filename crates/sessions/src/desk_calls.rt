@@ -8,7 +8,7 @@ ghost use Rattle.rows.specs.Replies.{IsRight};
 ghost use Rattle.rows.specs.Views.{AreRight};
 ghost use Rattle.rows.specs.Nearby.{are_pairs, node_of, IsNear, IsUntold};
 ghost use Rattle.routes.specs.RouteReplies.{IsRightRoute};
-ghost use Rattle.desk.specs.Readings.{IsNoReader};
+ghost use Rattle.desk.specs.Readings.{IsNoPlace};
 ghost use Rattle.desk.specs.States.{StoodSo};
 ghost use Rattle.desk.specs.Turns.{IsRefusedOn, IsUnreached, IsUnserved};
 ghost use mathlib.Core.List.{IsPrefix};
@@ -31,7 +31,7 @@ use std::time::Clock;
 pub(crate) trait DeskCalls<N: Naming> {
     /// A place among the readers.
     fn place(&self) -> Result<Place<N>, Refusal>
-        ensures { IfErr result IsNoReader };
+        ensures { IfErr result IsNoPlace };
 
     /// The reply to `Dist` at a glance.
     fn dist(&self, glance: &Glance<N>, source: u64, target: u64) -> Result<Reply, OutOfMemory>
@@ -65,21 +65,21 @@ pub(crate) trait DeskCalls<N: Naming> {
         ensures origin { IfOk result (λ front. front.origin ≡ N.origin) }
         ensures begins { IfOk result (λ front. IsPrefix basis.now.groups front.groups) }
         ensures acknowledged { IfOk result (λ front. N.origin.version + length basis.now.groups ≤ front.acknowledged) }
-        ensures causes { IfErr result IsUnserved };
+        ensures causes { IfErr result (IsUnserved N.origin (N.origin.version + length basis.now.groups)) };
 
     /// Waits until the ticket's group is durable.
     fn settle(&self, ticket: Ticket) -> Result<Receipt, (Refusal, Ticket)>
         requires { ticket.origin ≡ N.origin }
         ensures receipt { IfOk result (λ receipt. receipt ≡ ticket) }
         ensures handed_back { IfErr result (λ refused. refused.1 ≡ ticket) }
-        ensures causes { IfErr result (λ refused. IsUnserved refused.0) };
+        ensures causes { IfErr result (λ refused. IsUnserved N.origin ticket.ticket.number refused.0) };
 
     /// Waits until the ticket's group is shown.
     fn wait_shown(&self, ticket: &Ticket) -> Result<Shown, Refusal>
         requires { ticket.now.origin ≡ N.origin }
         ensures origin { IfOk result (λ shown. shown.origin ≡ N.origin) }
         ensures there { IfOk result (λ shown. IsAt N.origin.version shown.groups ticket.now.ticket) }
-        ensures causes { IfErr result IsUnserved };
+        ensures causes { IfErr result (IsUnserved N.origin ticket.now.ticket.number) };
 
     /// Waits until this version or a later one is shown, for at most the desk's patience.
     fn wait_version(&self, version: u64) -> Result<Shown, Refusal>

@@ -2,8 +2,8 @@
 ghost use Rattle.std.specs.Prelude.{◌≡◌, ◌+◌, length, IfOk, IfErr, IsOk, IsSome, OnOk};
 ghost use mathlib.Core.List.{IsPrefix};
 ghost use Rattle.published.specs.Showing.{IsUnseen};
-ghost use Rattle.desk.specs.Readings.{IsNoReader, IsViewAfter};
-ghost use Rattle.sessions.specs.Told.{known_to, IsReached, IsUnmet};
+ghost use Rattle.desk.specs.Readings.{IsNoPlace, IsViewAfter};
+ghost use Rattle.sessions.specs.Told.{known_to, IsReached, IsUnmet, IsUnsighted};
 
 use crate::desk_calls::DeskCalls;
 use desk::{Glance, Naming, Place, Shown};
@@ -14,7 +14,7 @@ const TRIES: usize = 8;
 
 /// A reader place of the desk. If none is free (60), as may happen while readers come and go, it tries again a few times.
 fn find_place<N: Naming, H: DeskCalls<N>>(desk: &H) -> Result<Place<N>, Refusal>
-    ensures { IfErr result IsNoReader }
+    ensures { IfErr result IsNoPlace }
 {
     for _ in 1..TRIES {
         match desk.place() {
@@ -30,7 +30,7 @@ fn take_place<N: Naming, H: DeskCalls<N>>(
     place: &mut Option<Place<N>>,
     desk: &H,
 ) -> Result<(), Refusal>
-    ensures causes { IfErr result IsNoReader }
+    ensures causes { IfErr result (IsUnsighted (known_to place.new)) }
     // A place that the session has stays.
     ensures held { IsSome place.old → IsOk result }
     ensures found { OnOk result (IsSome place.new) }
@@ -53,7 +53,7 @@ pub(crate) fn see<N: Naming, H: DeskCalls<N>>(
 ) -> Result<Glance<N>, Refusal>
     ensures seen { IfOk result (λ glance. glance.known.groups ≡ known_to place.new) }
     ensures view { IfOk result (λ glance. IsViewAfter N.origin glance.known.groups glance.view) }
-    ensures causes { IfErr result IsNoReader }
+    ensures causes { IfErr result (IsUnsighted (known_to place.new)) }
     ensures begins { IsPrefix (known_to place.old) (known_to place.new) }
 {
     take_place(place, desk)?;
@@ -92,7 +92,7 @@ pub(crate) fn version_now<N: Naming, H: DeskCalls<N>>(
     desk: &H,
 ) -> Result<u64, Refusal>
     ensures version { IfOk result (λ version. version ≡ N.origin.version + length (known_to place.new)) }
-    ensures causes { IfErr result IsNoReader }
+    ensures causes { IfErr result (IsUnsighted (known_to place.new)) }
     ensures begins { IsPrefix (known_to place.old) (known_to place.new) }
 {
     take_place(place, desk)?;
@@ -110,7 +110,7 @@ pub(crate) fn learn_version<N: Naming, H: DeskCalls<N>>(
 ) -> Result<u64, Refusal>
     requires { shown.now.origin ≡ N.origin }
     ensures version { IfOk result (λ version. version ≡ N.origin.version + length (known_to place.new)) }
-    ensures causes { IfErr result IsNoReader }
+    ensures causes { IfErr result (IsUnsighted (known_to place.new)) }
     ensures begins { IsPrefix (known_to place.old) (known_to place.new) }
     ensures learned { OnOk result (IsPrefix shown.now.groups (known_to place.new)) }
 {
@@ -128,7 +128,7 @@ pub(crate) fn wait_until<N: Naming, H: DeskCalls<N>>(
     number: u64,
 ) -> Result<u64, Refusal>
     ensures reached { IfOk result (IsReached N.origin number (known_to place.new)) }
-    ensures causes { IfErr result (IsUnmet N.origin number) }
+    ensures causes { IfErr result (IsUnmet N.origin number (known_to place.new)) }
     ensures begins { IsPrefix (known_to place.old) (known_to place.new) }
 {
     let shown = desk.wait_version(number)?;

@@ -11,4 +11,4 @@ returns-in-Ok-clause-told g c group refused =
     (c.with_front.ensures.kept c.in-Some.basis.groups c.in-Ok.ensures.begins (search rules))
 
 pub returns-clause-told : goal.returns-clause-told
-returns-clause-told g c group refused = declined_unsettled g.N.Naming.origin _ _ group _ refl c.in-Err.ensures.causes
+returns-clause-told g c group refused = declined_unsettled g.N.Naming.origin _ _ group c.args.refused.refusal _ c.in-Some.basis refl (search rules) c.in-Err.ensures.causes

@@ -90,19 +90,20 @@ fn asked_of<R: Threads>(
     first_other(alloc, view, pairs, &replies)
 }
 
-/// Whether a batch by a cache of so many rows is answered right, and how many rows it leaves.
+/// Whether a batch by a cache for so many rows, with that of node 2, is answered right, how many rows it leaves, and whether that of node 2 is one.
 fn asked_together<R: Threads>(
     rt: &R,
     alloc: Global,
     view: &View,
     pairs: &[(u64, u64)],
     capacity: u32,
-) -> Result<(bool, usize), OutOfMemory>
+) -> Result<(bool, usize, bool), OutOfMemory>
     requires { (1 ≤ capacity) × (capacity ≤ 64) }
 {
     let mut cache = RowCache::new(alloc, capacity);
+    let _reply = ask(rt, alloc, view, &mut cache, 2, 6)?;
     let other = asked_of(rt, alloc, view, pairs, &mut cache)?;
-    Ok((other.is_none(), cache.len()))
+    Ok((other.is_none(), cache.len(), cache.has(view.version(), 2)))
 }
 
 /// A view of the six-node network with these landmarks.
@@ -110,22 +111,28 @@ fn view_of_six(alloc: Global, landmarks: &[u32]) -> Result<View, Refusal> {
     Ok(View::build(alloc, 1, six_with(alloc, landmarks)?, None, &Solo)?)
 }
 
-/// Pairs, and how many rows their batch leaves in a cache of 16. Rows are made of sources, and kept; where the targets are fewer, rows are made of
-/// these, and none is kept.
-const SIDES: [([(u64, u64); 3], usize); 4] = [
-    ([(1, 6), (1, 4), (1, 2)], 1),
-    ([(1, 6), (2, 4), (1, 2)], 2),
-    ([(1, 6), (2, 6), (3, 6)], 0),
-    ([(4, 6), (7, 6), (4, 0)], 1),
+/// Pairs, and how many rows their batch leaves in a cache of 16, with that of node 2. Rows are made of sources that have none, and kept; where the targets
+/// are fewer, rows are made of these, and none is kept.
+const SIDES: [([(u64, u64); 3], usize); 5] = [
+    ([(1, 6), (1, 4), (1, 2)], 2),
+    ([(1, 6), (3, 4), (1, 2)], 3),
+    ([(1, 6), (2, 6), (3, 6)], 1),
+    ([(4, 6), (7, 6), (4, 0)], 2),
+    ([(1, 6), (2, 6), (1, 6)], 2),
 ];
 
+/// A cache for one row is left with that of the greatest source: pairs of a source follow each other, so its row is made once. Refused is a body that makes
+/// rows of the other side, that makes a kept one again, or that takes pairs in their order.
 #[test]
-fn fewer_side_of_a_batch(rt: HostRuntime) {
+fn rows_of_a_batch(rt: HostRuntime) {
     let view = view_of_six(rt.alloc(), &[]).expect(&rt, "memory");
     for (pairs, rows) in SIDES {
         let told = asked_together(&rt, rt.alloc(), &view, &pairs, 16).expect(&rt, "memory");
-        assert!(rt; told == (true, rows), "{told:?}");
+        assert!(rt; told == (true, rows, true), "{told:?}");
     }
+    let pairs = [(1, 6), (2, 6), (1, 4)];
+    let told = asked_together(&rt, rt.alloc(), &view, &pairs, 1).expect(&rt, "memory");
+    assert!(rt; told == (true, 1, true), "{told:?}");
 }
 
 /// The reply to `Dist` by a view and a cache.

@@ -4,4 +4,6 @@
 #[cfg(test)]
 mod caching;
 #[cfg(test)]
+mod ending;
+#[cfg(test)]
 mod viewing;

@@ -1,10 +1,12 @@
 //! Replies of views and of the slow answer, as they were worked out by hand.
 
-use fixtures::six_with;
+use deltastep::{Guide, back_of};
+use fixtures::{network, six_with};
 use relax::Solo;
 use roadnet::{OutOfMemory, Refusal};
-use rows::{Query, Reply, RowCache, View, answer_plain};
+use rows::{Landmarks, Query, Reply, RowCache, View, answer_plain};
 use std::alloc::Global;
+use std::sync::Arc;
 use std::thread::Threads;
 
 /// What is asked of two numbers.
@@ -96,4 +98,37 @@ const OF_TWO: [Row; 5] = [
 fn replies_of_views_and_slow_ones(rt: HostRuntime) {
     assert!(rt; first_other(&rt, rt.alloc(), &[3], &OF_THREE) == Ok(None));
     assert!(rt; first_other(&rt, rt.alloc(), &[3, 1], &OF_TWO) == Ok(None));
+}
+
+/// Two landmarks, with a way of its own from each to node 5.
+const WAYS: [(u32, u32, u32); 4] = [(1, 3, 2048), (3, 5, 2048), (2, 4, 2048), (4, 5, 2048)];
+
+/// What leads a search from node 3 to node 5 at node 4, behind the other landmark, and the width of the arcs turned round.
+fn led_and_turned(alloc: Global) -> Result<(u64, u32), Refusal> {
+    let network = network(alloc, 5, &WAYS, &[1, 2])?;
+    let view = View::build(alloc, 1, network, None, &Solo)?;
+    let turned = view.asker().turn(alloc)?;
+    let guide = Landmarks::new(alloc, view.rows(), 3, 5);
+    Ok((guide.bound(4), turned.delta()))
+}
+
+/// Whether a view that is given the arcs turned round shares them.
+fn shares_back(alloc: Global) -> Result<bool, Refusal> {
+    let view = view_of_six(alloc, &[])?;
+    let Ok(back) = back_of(alloc, view.network()) else {
+        return Err(Refusal::OutOfMemory);
+    };
+    let Ok(back) = Arc::new(alloc, back) else {
+        return Err(Refusal::OutOfMemory);
+    };
+    Ok(view.with_back(back).back().is_some())
+}
+
+/// More landmarks lead than the one with the greatest bound at the source. The arcs turned round have the width of the view, and are shared. Refused is a
+/// body that lets one lead, that groups them by another width, or that hands none out.
+#[test]
+fn what_searches_of_a_view_get(rt: HostRuntime) {
+    let told = led_and_turned(rt.alloc()).expect(&rt, "memory");
+    assert!(rt; told == (2048, 2), "{told:?}");
+    assert!(rt; shares_back(rt.alloc()).expect(&rt, "memory"));
 }

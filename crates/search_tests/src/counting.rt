@@ -1,0 +1,165 @@
+//! How much of a network searches settle, by a team that counts its requests and a guide that counts its bounds.
+
+ghost use Rattle.std.specs.Prelude.{◌≡◌, IfOk};
+
+use deltastep::{
+    Guide, Workspace, back_of, changed_nodes, distance_guided_in, distance_to_in, row, row_after,
+};
+use fixtures::arc;
+use relax::{Solo, Team, Tentative};
+use roadnet::{Command, Network, OutOfMemory, Refusal};
+use snapshot::{Part, Snapshot};
+use std::alloc::{AllocError, Global};
+use std::cell::Cell;
+
+/// A team of one worker that counts the requests that it makes.
+#[derive(Drop)]
+struct Counting {
+    made: Cell<usize>,
+}
+
+impl Team for Counting {
+    fn requests(
+        &self,
+        alloc: Global,
+        snapshot: &Snapshot,
+        nodes: &[u32],
+        tentative: &Tentative,
+        part: Part,
+    ) -> Result<Vec<(u32, u64)>, OutOfMemory> {
+        let requests = Solo.requests(alloc, snapshot, nodes, tentative, part)?;
+        self.made
+            .set(self.made.get().saturating_add(requests.len()));
+        Ok(requests)
+    }
+}
+
+/// A guide whose bounds are 0, and that counts how many it gives.
+#[derive(Drop)]
+struct Idle {
+    target: u32,
+    given: Cell<u32>,
+}
+
+impl Guide for Idle {
+    ghost target = { λ guide. guide.target };
+
+    ghost knows = { λ _ _. Unit {0} };
+
+    fn bound(&self, _node: u32) -> u64 {
+        self.given.set(self.given.get().saturating_add(1));
+        0
+    }
+}
+
+/// 10,000 nodes in a ladder: two on each rung, and from each of them an arc of length 1 to both nodes of the next rung.
+fn ladder(alloc: Global) -> Result<Network, Refusal>
+    ensures nodes { IfOk result (λ made. made.nodes ≡ 10000) }
+{
+    let mut arcs = Vec::new(alloc);
+    for node in 1..9_999 {
+        let next = node + node % 2 + 1;
+        arcs.push(arc(node, next, 1)).map_err(AllocError::from)?;
+        arcs.push(arc(node, next + 1, 1)).map_err(AllocError::from)?;
+    }
+    Network::new(alloc, 10_000, arcs, &[])
+}
+
+/// How many requests are made for the row of node 1, and how many for its distance to a node ten rungs on.
+fn made_for(alloc: Global, groups: &Snapshot) -> Result<(usize, usize), Refusal> {
+    if !groups.has_node(1) || !groups.has_node(21) {
+        return Err(Refusal::NoSuchNode);
+    }
+    let team = Counting { made: Cell::new(0) };
+    let _row = row(alloc, groups, 1, &team).map_err(|_| Refusal::OutOfMemory)?;
+    let whole = team.made.replace(0);
+    let _length = distance_to_in(alloc, groups, 1, 21, &team, &mut Workspace::new()).map_err(
+        |_| Refusal::OutOfMemory,
+    )?;
+    Ok((whole, team.made.get()))
+}
+
+/// How many bounds are given to a search from node 1 to a node in the middle, 2,500 rungs on.
+fn given_for(alloc: Global, groups: &Snapshot) -> Result<u32, Refusal> {
+    let target = 5_001;
+    if !groups.has_node(1) || !groups.has_node(target) {
+        return Err(Refusal::NoSuchNode);
+    }
+    let guide = Idle {
+        target,
+        given: Cell::new(0),
+    };
+    let _length = distance_guided_in(
+        alloc,
+        groups,
+        1,
+        target,
+        &guide,
+        &mut Workspace::new(),
+    ).map_err(|_| Refusal::OutOfMemory)?;
+    Ok(guide.given.get())
+}
+
+/// What `made_for` and `given_for` count in the ladder.
+fn counted(alloc: Global) -> Result<(usize, usize, u32), Refusal> {
+    let groups = Snapshot::build(alloc, &ladder(alloc)?, 1)?;
+    let (whole, near) = made_for(alloc, &groups)?;
+    Ok((whole, near, given_for(alloc, &groups)?))
+}
+
+/// How many nodes have other legs after a change, and how many requests are made to repair the row of node 1.
+fn repaired(alloc: Global, before: &Network, after: &Network) -> Result<(usize, usize), Refusal> {
+    let older = Snapshot::build(alloc, before, 1)?;
+    let newer = Snapshot::build(alloc, after, 1)?;
+    if older.nodes() != newer.nodes() || !newer.has_node(1) {
+        return Err(Refusal::NoSuchNode);
+    }
+    let Ok(old) = row(alloc, &older, 1, &Solo) else {
+        return Err(Refusal::OutOfMemory);
+    };
+    let Ok(changed) = changed_nodes(alloc, &older, &newer) else {
+        return Err(Refusal::OutOfMemory);
+    };
+    let Ok(back) = back_of(alloc, after) else {
+        return Err(Refusal::OutOfMemory);
+    };
+    let team = Counting { made: Cell::new(0) };
+    let repaired = row_after(
+        alloc,
+        &newer,
+        1,
+        &older,
+        &old,
+        &changed,
+        &back,
+        &team,
+        &mut Workspace::new(),
+    );
+    match repaired {
+        Ok(_row) => Ok((changed.len(), team.made.get())),
+        Err(_) => Err(Refusal::OutOfMemory),
+    }
+}
+
+/// The same of the ladder, in which one arc gets longer, nine rungs before the end.
+fn repaired_near_the_end(alloc: Global) -> Result<(usize, usize), Refusal> {
+    let before = ladder(alloc)?;
+    let mut after = before.copy()?;
+    after.apply(Command::Set {
+        arc: 19_961,
+        length: 2,
+    })?;
+    repaired(alloc, &before, &after)
+}
+
+/// The row takes four requests a rung, and the distance does for ten rungs. The led search is given two bounds a rung. A repair takes requests where
+/// the row changes. Refused is a search that goes on behind its target, a led one that does up to twice the distance, and a repair that makes the row
+/// anew or takes all nodes for changed.
+#[test]
+fn searches_settle_what_they_have_to(rt: HostRuntime) {
+    let (whole, near, given) = counted(rt.alloc()).expect(&rt, "memory");
+    assert!(rt; whole > 19_000 && near < 100, "{whole} {near}");
+    assert!(rt; given < 5_100, "{given}");
+    let (changed, made) = repaired_near_the_end(rt.alloc()).expect(&rt, "memory");
+    assert!(rt; changed == 1 && made < 100, "{changed} {made}");
+}

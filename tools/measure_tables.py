@@ -1,6 +1,6 @@
 #!/usr/bin/env python3
 """Measures what the lines beyond pairs take in a session: a table of 100 sources and 1,000 targets (100,000 nodes), `reach` that tells some 1,000 nodes beside a bare
-round trip and beside its lines through `cat`, and `suppose` beside a copy of as many bytes as the network takes.
+round trip, beside its lines through `cat` and beside `reached`, and `suppose` beside a copy of as many bytes as the network takes.
 
     tools/measure_tables.py [PROGRAM] [ROUNDS]
 
@@ -44,12 +44,12 @@ def table(program, folder, nodes, draw, rounds):
     session.end()
     print(f"{nodes} nodes: a table of 100 by {LINES}: {statistics.median(times):.3f} s, {statistics.median(times) / 100 * 1000:.3f} ms a source", flush=True)
 
-def limit_for(session, source):
-    """A limit within which the source reaches about 1,000 nodes, and how many."""
+def limit_for(session, word, node):
+    """A limit within which the node reaches about 1,000 nodes, or is reached from them, and how many."""
     low, high = 0, 1 << 40
     while True:
         limit = (low + high) // 2
-        session.ask(f"reach {source} {limit}\n".encode())
+        session.ask(f"{word} {node} {limit}\n".encode())
         told = session.server.stdout.readline()
         count = int(told.split()[-1])
         rest(session, told)
@@ -68,20 +68,24 @@ def echoed(echo, lines):
 
 def near(session, nodes, draw, rounds):
     bare = statistics.median(timed(session, b"dist 0 0\n", 1) for _ in range(200))
-    times, counts, lines_alone = [], [], []
+    times, counts, lines_alone = {"reach": [], "reached": []}, [], []
     echo = subprocess.Popen(["cat"], stdin=subprocess.PIPE, stdout=subprocess.PIPE)
-    while len(times) < rounds:
-        source = draw.randint(1, nodes)
-        limit, count = limit_for(session, source)
-        if LINES * 9 // 10 <= count <= LINES * 11 // 10:
+    while len(counts) < rounds:
+        node = draw.randint(1, nodes)
+        limits = {word: limit_for(session, word, node) for word in times}
+        if all(LINES * 9 // 10 <= count <= LINES * 11 // 10 for _, count in limits.values()):
+            for word, (limit, count) in limits.items():
+                times[word].append(min(timed(session, f"{word} {node} {limit}\n".encode(), count + 1) for _ in range(3)) / count)
+            limit, count = limits["reach"]
             counts.append(count)
-            times.append(min(timed(session, f"reach {source} {limit}\n".encode(), count + 1) for _ in range(3)))
-            session.ask(f"reach {source} {limit}\n".encode())
+            session.ask(f"reach {node} {limit}\n".encode())
             lines = b"".join(session.server.stdout.readline() for _ in range(count + 1))
             lines_alone.append(min(echoed(echo, lines) for _ in range(3)))
     echo.stdin.close()
-    took, listed = statistics.median(times), statistics.median(lines_alone)
-    print(f"{nodes} nodes: reach of {statistics.median(counts):.0f} nodes {took / bare:.1f} bare round trips, its lines through cat {listed / bare:.1f}", flush=True)
+    took, turned, listed = statistics.median(times["reach"]), statistics.median(times["reached"]), statistics.median(lines_alone)
+    count = statistics.median(counts)
+    print(f"{nodes} nodes: reach of {count:.0f} nodes {took * count / bare:.1f} bare round trips, its lines through cat {listed / bare:.1f}", flush=True)
+    print(f"{nodes} nodes: reached of as many {turned / took:.2f} of reach", flush=True)
 
 def suppose(session, arcs, draw, rounds):
     network = bytearray(16 * arcs)

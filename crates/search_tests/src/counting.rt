@@ -3,11 +3,12 @@
 ghost use Rattle.std.specs.Prelude.{◌≡◌, IfOk};
 
 use deltastep::{
-    Guide, Workspace, back_of, changed_nodes, distance_guided_in, distance_to_in, row, row_after,
+    Guide, Workspace, changed_nodes, distance_to_in, row, row_after, values_guided_in,
 };
 use fixtures::arc;
 use relax::{Solo, Team, Tentative};
 use roadnet::{Command, Network, OutOfMemory, Refusal};
+use rows::numbered_back;
 use snapshot::{Part, Snapshot};
 use std::alloc::{AllocError, Global};
 use std::cell::Cell;
@@ -89,14 +90,9 @@ fn given_for(alloc: Global, groups: &Snapshot) -> Result<u32, Refusal> {
         target,
         given: Cell::new(0),
     };
-    let _length = distance_guided_in(
-        alloc,
-        groups,
-        1,
-        target,
-        &guide,
-        &mut Workspace::new(),
-    ).map_err(|_| Refusal::OutOfMemory)?;
+    let _values = values_guided_in(alloc, groups, 1, target, &guide, &mut Workspace::new()).map_err(
+        |_| Refusal::OutOfMemory,
+    )?;
     Ok(guide.given.get())
 }
 
@@ -120,7 +116,7 @@ fn repaired(alloc: Global, before: &Network, after: &Network) -> Result<(usize, 
     let Ok(changed) = changed_nodes(alloc, &older, &newer) else {
         return Err(Refusal::OutOfMemory);
     };
-    let Ok(back) = back_of(alloc, after) else {
+    let Ok(back) = numbered_back(alloc, after) else {
         return Err(Refusal::OutOfMemory);
     };
     let team = Counting { made: Cell::new(0) };

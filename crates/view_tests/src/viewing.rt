@@ -1,10 +1,10 @@
 //! Replies of views and of the slow answer, as they were worked out by hand.
 
-use deltastep::{Guide, back_of};
+use deltastep::Guide;
 use fixtures::{network, six_with};
 use relax::Solo;
 use roadnet::{OutOfMemory, Refusal};
-use rows::{Landmarks, Query, Reply, RowCache, View, answer_plain};
+use rows::{Landmarks, Query, Reply, RowCache, View, answer_plain, numbered_back};
 use std::alloc::Global;
 use std::sync::Arc;
 use std::thread::Threads;
@@ -115,7 +115,7 @@ fn led_and_turned(alloc: Global) -> Result<(u64, u32), Refusal> {
 /// Whether a view that is given the arcs turned round shares them.
 fn shares_back(alloc: Global) -> Result<bool, Refusal> {
     let view = view_of_six(alloc, &[])?;
-    let Ok(back) = back_of(alloc, view.network()) else {
+    let Ok(back) = numbered_back(alloc, view.network()) else {
         return Err(Refusal::OutOfMemory);
     };
     let Ok(back) = Arc::new(alloc, back) else {

@@ -5,7 +5,6 @@ use Rattle.view_tests.proofs.viewing.shares_back.Goals as goal
 
 pub with_back-requires : goal.with_back-requires
 with_back-requires c =
-    let back : LeadsBack c.network.result.now c.in-Ok.back = record { nodes = c.in-Ok.ensures.nodes; tails = c.in-Ok.ensures.tails } in
-    let of_view : LeadsBack c.in_ok-view.view.network c.in-Ok.back = subst (λ (n : Net). LeadsBack n c.in-Ok.back) c.network.ensures back in
+    let of_view : LeadsBack c.in_ok-view.view.network c.in-Ok.back = subst (λ (n : Net). LeadsBack n c.in-Ok.back) c.network.ensures c.in-Ok.ensures in
     let same : c.in-Ok-new.back.value ≡ c.in-Ok.back = search rules in
     rw same of_view

@@ -92,7 +92,8 @@ def main() -> int:
             (folder / "a.gr").write_text(roads.text())
             marks = sorted(draw.sample(range(1, roads.nodes + 1), draw.randint(0, min(2, roads.nodes))))
             (folder / "a.ss").write_text(f"p aux sp ss {len(marks)}\n" + "".join(f"s {mark}\n" for mark in marks))
-            subprocess.run([program, "create", folder / "a.store", folder / "a.gr", folder / "a.ss"], check=True, stdout=subprocess.DEVNULL)
+            # With room for all arcs that may be laid: three in each round, and three more in what is supposed.
+            subprocess.run([program, "create", folder / "a.store", folder / "a.gr", folder / "a.ss", "--room", str(len(roads.arcs) + 12)], check=True, stdout=subprocess.DEVNULL)
             with roadmark.Session.start([program, "serve", folder / "a.store"]) as session:
                 for _ in range(3):
                     compared += judge(roads, session)

@@ -33,6 +33,21 @@ def write_texts(folder, side):
     (folder / "none.p2p").write_text("p aux sp p2p 0\n")
     return len(lines), marks
 
+def texts_of(words, folder):
+    """The texts of the network and its landmarks, those of the two files that are named or of a grid with this side or 1,000, the number of nodes, and that of arcs."""
+    network, marks = folder / "grid.gr", folder / "grid.ss"
+    if len(words) > 1:
+        network, marks = (pathlib.Path(word) for word in words)
+    else:
+        write_texts(folder, int(words[0]) if words else 1000)
+    with open(network) as lines:
+        nodes, arcs = next(line.split()[2:4] for line in lines if line.startswith("p "))
+    return network, marks, int(nodes), int(arcs)
+
+def processor_time(process):
+    """The seconds of processor time that a process has had, to the nanosecond, with those of threads that have ended."""
+    return time.clock_gettime(~process << 3 | 2)
+
 class Session:
     def __init__(self, program, store, workers):
         self.server = subprocess.Popen([program, "serve", store, "--workers", str(workers)], stdin=subprocess.PIPE, stdout=subprocess.PIPE)

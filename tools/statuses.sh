@@ -19,13 +19,20 @@ ends() {
   fi
 }
 
+# fails WANTED-FAULT-LINE WANTED-REASON WORDS..: with status 1, and the reason behind the fault line
+fails() {
+  local lines=$1$'\n'"roadmark: $2"
+  shift 2
+  ends 1 "$lines" "$@"
+}
+
 # 0: all is done, help was asked for, or commands and queries were refused
 for words in 'once six.gr 1 6' 'once six.gr 1 9' 'route six.gr 1 6' 'route six.gr 1 9' 'batch six.gr six.p2p' 'batch six.gr --from six.ss --to six.ss' 'reach six.gr 1 --within 10' 'reached six.gr 9' 'ask six.store --from six.ss --to six.ss' 'rehearse six.gr six.script' 'ask six.store six.p2p' 'ask six.store six.p2p --routes' 'check six.store' 'show six.store 7' 'show six.store 4 6' --help 'help serve' --version; do
   ends 0 '' $words > out
 done
 ends 0 '' < six.txt > out
 cp six.store other.store
-ends 0 '' apply other.store six.commands > out
+ends 0 'roadmark: six.commands: line 5: 22 AlreadyClosed' apply other.store six.commands > out
 ends 0 '' serve other.store > out < <(printf 'close 7\nclose 7\nhello\n')
 mkdir copies
 ends 0 '' serve other.store --copies copies > out < <(printf 'copy a\ncopy a\ncopy a.b\n')
@@ -42,28 +49,28 @@ ends 0 '' export six.store texts > out
 printf 'p sp 2 1\na 1 2 -5\n' > bad.gr
 head -c 4000 six.store > short.store
 ends 1 'roadmark: bad.gr: line 2: 7 LengthRange' once bad.gr 1 2 > out
-ends 1 'roadmark: none.gr: line 0: 10 Read' once none.gr 1 2 > out
-ends 1 'roadmark: a\nb\u{1b}: line 0: 10 Read' once $'a\nb\e' 1 2 > out
-ends 1 'roadmark: 46 NotEmpty' create six.store six.gr six.ss > out
-ends 1 'roadmark: 46 NotEmpty' migrate old.store six.store > out
-ends 1 'roadmark: 41 WrongFormat' ask old.store six.p2p > out
-ends 1 'roadmark: 41 WrongFormat' migrate six.store none.store > out
+fails 'roadmark: none.gr: line 0: 10 Read' 'none.gr: there is no such file or folder' once none.gr 1 2 > out
+fails 'roadmark: a\nb\u{1b}: line 0: 10 Read' 'a\nb\u{1b}: there is no such file or folder' once $'a\nb\e' 1 2 > out
+fails 'roadmark: 46 NotEmpty' 'six.store: it is not empty' create six.store six.gr six.ss > out
+fails 'roadmark: 46 NotEmpty' 'six.store: it is not empty' migrate old.store six.store > out
+fails 'roadmark: 41 WrongFormat' 'old.store: it is a store of another format' ask old.store six.p2p > out
+fails 'roadmark: 41 WrongFormat' 'six.store: it is a store of another format' migrate six.store none.store > out
 printf 'p sp 6 1\na 2 1 17\n' > other.gr
-ends 1 'roadmark: 52 OtherNetwork' upgrade six.store other.gr six.gr none.store > out
-ends 1 'roadmark: 46 NotEmpty' upgrade six.store six.gr six.gr other.store > out
-ends 1 'roadmark: none.store: line 0: 10 Read' upgrade none.store six.gr six.gr new2.store > out
-ends 1 'roadmark: 46 NotEmpty' copy six.store moved.store > out
-ends 1 'roadmark: 41 WrongFormat' copy old.store none.store > out
-ends 1 'roadmark: 9 TooLarge' copy six.store none.store --room 7 > out
-ends 1 'roadmark: six.store: line 0: 10 Read' copy six.store six.store > out
-ends 1 'roadmark: 9 TooLarge' create none.store six.gr six.ss --room 7 > out
-ends 1 'roadmark: 40 NotAStore' check short.store > out
-ends 1 'roadmark: 40 NotAStore' show short.store 7 > out
-ends 1 'roadmark: 46 NotEmpty' export six.store texts > out
-ends 1 'roadmark: none: line 0: 10 Read' export six.store none > out
-ends 1 'roadmark: none: line 0: 10 Read' serve six.store --copies none > out
-ends 1 'roadmark: six.gr: line 0: 10 Read' serve six.store --asking lines six.gr > out
-ends 1 'roadmark: 12 Write' once six.gr 1 6 > /dev/full
+fails 'roadmark: 52 OtherNetwork' 'other.gr: the store was not made from it' upgrade six.store other.gr six.gr none.store > out
+fails 'roadmark: 46 NotEmpty' 'other.store: it is not empty' upgrade six.store six.gr six.gr other.store > out
+fails 'roadmark: none.store: line 0: 10 Read' 'none.store: there is no such file or folder' upgrade none.store six.gr six.gr new2.store > out
+fails 'roadmark: 46 NotEmpty' 'moved.store: it is not empty' copy six.store moved.store > out
+fails 'roadmark: 41 WrongFormat' 'old.store: it is a store of another format' copy old.store none.store > out
+fails 'roadmark: 9 TooLarge' '--room: it may be from the number of arcs to 67108864' copy six.store none.store --room 7 > out
+fails 'roadmark: six.store: line 0: 10 Read' 'six.store: it is in use by another process' copy six.store six.store > out
+fails 'roadmark: 9 TooLarge' '--room: it may be from the number of arcs to 67108864' create none.store six.gr six.ss --room 7 > out
+fails 'roadmark: 40 NotAStore' 'short.store: it is not a store' check short.store > out
+fails 'roadmark: 40 NotAStore' 'short.store: it is not a store' show short.store 7 > out
+fails 'roadmark: 46 NotEmpty' 'texts/network.gr: it is there already' export six.store texts > out
+fails 'roadmark: none: line 0: 10 Read' 'none: there is no such file or folder' export six.store none > out
+fails 'roadmark: none: line 0: 10 Read' 'none: there is no such file or folder' serve six.store --copies none > out
+fails 'roadmark: six.gr: line 0: 10 Read' 'six.gr: it is no named pipe' serve six.store --asking lines six.gr > out
+fails 'roadmark: 12 Write' 'standard output: a write failed: no space left on device' once six.gr 1 6 > /dev/full
 ends 1 'roadmark: 12 Write' --help > /dev/full
 ends 1 'roadmark: 12 Write' serve six.store > /dev/full < <(printf 'dist 1 6\n')
 ends 1 'roadmark: 10 Read' serve six.store < . > out

@@ -1,12 +1,30 @@
 #!/usr/bin/env bash
 # Shows that the calls which crates/filedisk/src/system.rt notes are the ones that reach the system: runs a test over a real file, built by
-# `rt test` in crates/disk_tests, under strace, and holds its calls against those that the test makes. Needs strace.
+# `rt test` in crates/disk_tests, under strace, and compares its calls with those that the test makes. Shows as well that `export` syncs its three texts and
+# then their folder before it prints its line; the store is synced as it is opened. Needs strace and a built program.
+#   tools/system_calls.sh [PROGRAM]
 set -eu
-top=$(cd "$(dirname "${BASH_SOURCE[0]}")/.." && pwd)
+. "$(dirname "${BASH_SOURCE[0]}")/store_of_six.sh"
 test=$top/crates/disk_tests/out/disk_tests_tests
-wanted=$(mktemp)
-seen=$(mktemp)
-trap 'rm -f "$wanted" "$seen"' EXIT
+wanted=wanted
+seen=seen
+
+mkdir texts
+cat > "$wanted" <<CALLS
+fsync $folder/six.store
+fsync $folder/texts/network.gr
+fsync $folder/texts/landmarks.ss
+fsync $folder/texts/closed.commands
+fsync $folder/texts
+write "ok 0\n"
+CALLS
+strace -f -y -e trace=fsync,write "$program" export six.store texts 2>&1 |
+    sed -n -E 's/^fsync\([0-9]+<(.*)>\) += 0$/fsync \1/p; s/^write\(1<.*>, (".*"), .*/write \1/p' > "$seen"
+if ! diff "$wanted" "$seen"; then
+    echo "export makes other calls" >&2
+    exit 1
+fi
+echo "export syncs the texts and their folder, and then prints its line"
 
 # the file is 3; its folder, and then another handle of the file, is 4
 cat > "$wanted" <<'CALLS'

@@ -1,6 +1,6 @@
 #!/usr/bin/env bash
 # Takes the tour of docs/WEB.md on a new machine: a minimal Debian 12, which debootstrap makes in a folder, with this repository, the program, and nothing else. Each line of the page that begins with
-# `$ ` is run there by one shell, and what it prints is compared with the lines behind it. Where the page says to open a browser, chromium clicks, and is there until the tour ends.
+# `$ ` is run there by one shell, and what it prints is compared with the lines behind it; the seconds of each are told. Where the page says to open a browser, chromium clicks, and is there until the tour ends.
 #   tools/try_web_tour.sh [--base FOLDER] [--shots FOLDER] [PROGRAM]
 # The minimal Debian is taken from the one FOLDER, and made there where it is not; without it it is thrown away. Screenshots go into the other. PROGRAM is crates/roadmark/out/roadmark where none is
 # given. Needs root, debootstrap, the network, port 5000, and 2 GB of disk; all that is mounted and started ends with it.
@@ -23,10 +23,10 @@ steps_of() {
 
 # The shell of the tour, in the new machine. A step that prints nothing on the page may print anything; it succeeds, and what another prints is there within a minute.
 tour() {
-  local step tries
+  local step tries began took
   cd /tour
   for step in /steps/*.command; do
-    step=${step%.command} tries=0
+    step=${step%.command} tries=0 began=${EPOCHREALTIME/./}
     # shellcheck disable=SC1090  # a line of the page
     . "$step.command" > "$step.seen" 2> "$step.errors" || { echo "FAILED $(cat "$step.command"): status $?"; tail -n 5 "$step.errors"; return 1; }
     until [ ! -s "$step.wanted" ] || sed -e '$a\' "$step.seen" | cmp -s "$step.wanted"; do
@@ -35,7 +35,8 @@ tour() {
       [ "$tries" -lt 600 ] || { echo "FAILED $(cat "$step.command")"; diff "$step.wanted" "$step.seen"; return 1; }
       sleep 0.1
     done
-    echo "passed $(cat "$step.command")"
+    took=$(((${EPOCHREALTIME/./} - began) / 100000))
+    echo "passed $(cat "$step.command") ($((took / 10)).$((took % 10)) s)"
   done
 }
 

@@ -16,7 +16,7 @@ from maps import Bearing, Map, Place
 from pools import Turn
 from roadmark import Arc
 
-MOST_TABLE, MOST_ROUTE, MOST_NEAREST, MOST_COORDINATES = 100, 100, 100, 500
+MOST_TABLE, MOST_ROUTE, MOST_NEAREST, MOST_ALTERNATIVES, MOST_COORDINATES = 100, 100, 100, 3, 500
 NUMBER = r"[+-]?(?:\d{1,15}(?:\.\d{0,20})?|\.\d{1,20})(?:[eE][+-]?\d{1,3})?"
 COORDINATE = re.compile(rf"({NUMBER}),({NUMBER})")
 POLYLINE = re.compile(r"polyline(6?)\(([?-~]+)\)")
@@ -306,8 +306,10 @@ def alternatives_of(text: str) -> int:
 
 
 def route_annotations_of(text: str) -> set[str]:
-    wanted = set() if text == "false" else set(text.split(","))
-    if not wanted <= {"true", "nodes", "distance", "duration", "weight", "speed", "datasources"}:
+    if text == "false":
+        return set()
+    wanted = set(text.split(","))
+    if text != "true" and not wanted <= {"nodes", "distance", "duration", "weight", "speed", "datasources"}:
         raise ValueError(text)
     return wanted
 
@@ -348,6 +350,8 @@ class Route:
             raise Wrong("InvalidOptions", "Number of coordinates needs to be at least two.")
         if count > MOST_ROUTE:
             raise Wrong("TooBig", f"Number of entries {count} is higher than current maximum ({MOST_ROUTE})")
+        if own.get("alternatives", 0) > MOST_ALTERNATIVES:
+            raise Wrong("TooBig", f"Requested number of alternatives is higher than current maximum ({MOST_ALTERNATIVES})")
         if own.get("steps"):
             raise Wrong("NotImplemented", "This server tells no turns: steps=false alone is supported.")
         if own.get("continue_straight") == "true":

@@ -47,8 +47,8 @@ class Launcher(unittest.TestCase):
         for path, age in ((self.source, 60), (self.top / "crates.txt", 60), (self.program, 30)):
             os.utime(path, (time.time() - age,) * 2)
 
-    def run_it(self, *words: str, path: str | None = None, text: str = "") -> tuple[int, str, str]:
-        env = {"PATH": path or self.path, "FAILS": str(self.folder / "fails"), "TMPDIR": str(self.folder)}
+    def run_it(self, *words: str, path: str | None = None, text: str = "", **more: str) -> tuple[int, str, str]:
+        env = {"PATH": path or self.path, "FAILS": str(self.folder / "fails"), "TMPDIR": str(self.folder), **more}
         ran = subprocess.run([self.top / "roadmark", *words], input=text, capture_output=True, text=True, env=env, timeout=PATIENCE)
         return ran.returncode, ran.stdout, ran.stderr
 
@@ -56,6 +56,12 @@ class Launcher(unittest.TestCase):
         """With the words, the streams and the status of whoever calls it, and without the kit."""
         self.build('cat; echo "$#: $2" >&2; exit 3')
         self.assertEqual(self.run_it("apply", "a b", path=self.without, text="lines\n"), (3, "lines\n", "2: a b\n"))
+
+    def test_a_server_has_one_arena(self) -> None:
+        """Unless whoever calls it says how many."""
+        self.build('echo "${MALLOC_ARENA_MAX-none}"')
+        self.assertEqual([self.run_it(word)[1] for word in ("serve", "check")], ["1\n", "none\n"])
+        self.assertEqual([self.run_it("serve", MALLOC_ARENA_MAX=value)[1] for value in ("5", "")], ["5\n", "\n"])
 
     def test_a_build_that_is_stale_is_built_anew(self) -> None:
         for path in (self.source, self.top / "crates.txt", self.source.with_name("new.rt"), self.source.with_name("new.antt")):

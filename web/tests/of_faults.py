@@ -20,7 +20,13 @@ from towns import town
 FINE = {200, 400, 401, 403, 404, 405, 408, 409, 411, 413, 414, 415, 417, 431, 501, 503}
 PIECES = ("nearest", "table", "route", "v1", "v2", "driving", "13.4,52.5", "13.4,52.5;13.41,52.51", "polyline(", ")", "_p~iF", "?", "&", "=", ";", ",", "/", "..", "%00", "%2f", "%ff", "%e2%82", "number",
           "sources", "destinations", "annotations", "duration", "version", "99999999999999999999", "-1", "1e308", "nan", "isochrone", "from", "to", "within", "bbox", "arcs", "events?", "network", "version",
-          "suppose", "changes", "hints", "radiuses", "bearings", "0,20", "all", "unlimited", "\\", "'", "\"", "<script>", "ä", "#", "page", "leaflet", "metrics", "healthz")
+          "suppose", "changes", "geometries", "geojson", "overview", "full", "steps", "alternatives", "waypoints", "nodes", "true", "hints", "radiuses", "bearings", "0,20", "all", "unlimited", "\\", "'", "\"", "<script>", "ä", "#", "page", "leaflet", "metrics", "healthz")
+
+# Good requests, that are spoilt.
+GOOD = ("/nearest/v1/car/13.4,52.5?number=3&bearings=0,20", "/table/v1/car/13.4,52.5;13.41,52.51;13.42,52.5?sources=0;1&destinations=2&fallback_speed=3&scale_factor=1.5",
+        "/route/v1/car/13.4,52.5;13.41,52.51;13.42,52.5?geometries=geojson&annotations=nodes,duration&overview=full&alternatives=2&waypoints=0;2",
+        "/route/v1/car/polyline(ofp_Ik_vpAilAyu@te@g`E)?steps=false&continue_straight=default&radiuses=;unlimited;1000&bearings=0,180;;&generate_hints=false",
+        "/isochrone?from=13.41,52.505&within=60", "/arcs?bbox=13.4,52.5,13.41,52.51", "/version?version=0")
 
 
 def tables(stand: Stand, path: str, count: int, workers: int) -> list:
@@ -263,8 +269,8 @@ class Faults:
 
     def thrown(self, dice: random.Random, connection: http.client.HTTPConnection) -> tuple[int, str, bytes, str]:
         """One request, over a connection that is kept as long as it is not closed."""
-        path = "/" + "".join(dice.choice(PIECES) + dice.choice(("", "/", "/", "=", ";", "?", "&")) for _ in range(dice.randrange(1, 9)))
-        method, body, headers = dice.choice(("GET", "GET", "GET", "HEAD", "POST", "PUT", "DELETE", "FOO")), None, {}
+        path = self.address(dice)
+        method, body, headers = dice.choice(("GET",) * 8 + ("HEAD", "POST", "PUT", "DELETE", "FOO")), None, {}
         if dice.random() < 0.3:
             method, path = "POST", dice.choice(("/changes", "/suppose"))
             body = self.body(dice)
@@ -280,6 +286,16 @@ class Faults:
             return 200, "", b"", path
         response = connection.getresponse()
         return response.status, response.headers.get("Content-Type", ""), response.read(), path
+
+    def address(self, dice: random.Random) -> str:
+        """Pieces in any order, or a good address of which a few characters are others or gone, or pieces stand in the place of others."""
+        if dice.random() < 0.5:
+            return "/" + "".join(dice.choice(PIECES) + dice.choice(("", "/", "/", "=", ";", "?", "&")) for _ in range(dice.randrange(1, 9)))
+        path = dice.choice(GOOD)
+        for _ in range(dice.randrange(3)):
+            cut = dice.randrange(1, len(path))
+            path = path[:cut] + dice.choice(("", "", dice.choice(string.digits + ";,=&.-"), dice.choice(PIECES))) + path[cut + dice.randrange(3):]
+        return path
 
     def body(self, dice: random.Random) -> bytes:
         good = json.dumps({"changes": [{dice.choice(("close", "reopen", "set", "mark", "lay", "x")): dice.choice((1, 0, -1, 10 ** 30, "1", None, [1, 2], 1.5)), **dice.choice(({}, {"length": 3}))}],

@@ -11,14 +11,13 @@ from checks import Checks, equal, from_osm, true
 from of_faults import try_faults
 from of_front import try_front
 from of_outlines import try_outlines
+from of_routes import THREE, points, try_routes
 from stand import TOKEN, Answer, Stand
 from towns import town
 
-# The requests of OSRM's documentation (http.md, services nearest, table and route), of which the profile is any word.
+# The requests of OSRM's documentation (http.md, services nearest and table), of which the profile is any word.
 NEAREST = "nearest/v1/driving/13.388860,52.517037?number=3&bearings=0,20"
-THREE = "13.388860,52.517037;13.397634,52.529407;13.428555,52.523219"
 TABLE = f"table/v1/driving/{THREE}"
-ROUTE = f"route/v1/driving/{THREE}"
 POLYLINE = "polyline(egs_Iq_aqAppHzbHulFzeMe%60EuvKpnCglA)"
 
 # Addresses, with the code and the status of the answer.
@@ -34,11 +33,7 @@ ERRORS = (
     ("nearest/v1/driving/13.4,52.5?approaches=left", "InvalidQuery", 400), ("nearest/v1/driving/13.4,52.5?hints=!", "InvalidQuery", 400),
     ("nearest/v2/driving/13.4,52.5", "InvalidVersion", 400), ("nearby/v1/driving/13.4,52.5", "InvalidService", 400), ("nearest/driving/13.4,52.5", "InvalidUrl", 400),
     ("nearest", "InvalidUrl", 400), ("nearest/v1/driv%20ing/13.4,52.5", "InvalidUrl", 400), ("nearest/v1/driving/%ff", "InvalidUrl", 400),
-    ("route/v1/driving/13.4,52.5", "InvalidOptions", 400), (f"{ROUTE}?steps=true", "NotImplemented", 400), (f"{ROUTE}?continue_straight=true", "NotImplemented", 400),
-    (f"{ROUTE}?annotations=datasources", "NotImplemented", 400), (f"{ROUTE}?annotations=metres", "InvalidQuery", 400), (f"{ROUTE}?annotations=", "InvalidQuery", 400),
-    (f"{ROUTE}?geometries=wkt", "InvalidQuery", 400), (f"{ROUTE}?overview=true", "InvalidQuery", 400), (f"{ROUTE}?alternatives=-1", "InvalidQuery", 400), (f"{ROUTE}?sources=0", "InvalidQuery", 400),
-    (f"{ROUTE}?waypoints=0;1", "InvalidOptions", 400), (f"{ROUTE}?waypoints=0;2;2", "InvalidOptions", 400), (f"{ROUTE}?waypoints=0;x", "InvalidQuery", 400),
-    ("route/v1/driving/" + ";".join(["13.4,52.5"] * 101), "TooBig", 400), ("route/v2/driving/13.4,52.5;13.41,52.5", "InvalidVersion", 400), ("trip/v1/driving/13.4,52.5;13.41,52.5", "InvalidService", 400),
+    ("trip/v1/driving/13.4,52.5;13.41,52.5", "InvalidService", 400),
     ("table/v1/driving/13.4,52.5", "InvalidOptions", 400), (f"{TABLE}?sources=3", "InvalidOptions", 400), (f"{TABLE}?sources=0;", "InvalidQuery", 400),
     (f"{TABLE}?annotations=distance", "NotImplemented", 400), (f"{TABLE}?annotations=speed", "InvalidQuery", 400), (f"{TABLE}?fallback_speed=0", "InvalidOptions", 400),
     (f"{TABLE}?scale_factor=-1", "InvalidOptions", 400), (f"{TABLE}?scale_factor=1e999", "InvalidQuery", 400),
@@ -94,10 +89,6 @@ class Network:
 
     def reached(self, end: str, node: int, seconds: float) -> set[int]:
         return {other for other, length in self.row(node, end == "to").items() if length <= seconds * 10}
-
-
-def points(text: str) -> list[tuple[float, float]]:
-    return [tuple(map(float, point.split(","))) for point in text.split(";")]
 
 
 def inside(polygons: list, lon: float, lat: float) -> bool:
@@ -164,50 +155,6 @@ class Gateways:
         from osrm import coordinates_of
         # The example of the page on which Google tells the algorithm.
         equal(coordinates_of("polyline(_p~iF~ps|U_ulLnnqC_mqNvxq`@)"), [(-120.2, 38.5), (-120.95, 40.7), (-126.453, 43.252)])
-
-    def route(self) -> None:
-        """The ways from place to place: as long as a search says, along arcs that are there, and drawn along them."""
-        nodes = [self.network.nearest(point)[0] for point in points(THREE)]
-        answer = self.stand.get(f"{ROUTE}?geometries=geojson&annotations=nodes,duration,distance&overview=full")
-        equal((answer.status, answer.version, set(answer.json)), (200, 0, {"code", "routes", "waypoints"}))
-        [route] = answer.json["routes"]
-        equal(set(route), {"legs", "distance", "duration", "weight", "weight_name", "geometry"})
-        lengths = [self.network.lengths([one], [other])[0][0] for one, other in zip(nodes, nodes[1:])]
-        equal([leg["duration"] for leg in route["legs"]], lengths)
-        equal((route["duration"], route["weight"], route["weight_name"]), (round(sum(lengths), 1), round(sum(lengths), 1), "duration"))
-        for leg, ends, length in zip(route["legs"], zip(nodes, nodes[1:]), lengths):
-            self.along(leg["annotation"], ends, length)
-            equal((leg["steps"], leg["summary"], round(sum(leg["annotation"]["distance"]), 1)), ([], "", leg["distance"]))
-        met = [node for leg in route["legs"] for node in leg["annotation"]["nodes"]]
-        line = [tuple(point) for point in route["geometry"]["coordinates"]]
-        places = {self.network.osm[node]: self.network.places[node] for node in self.network.places}
-        equal([point for point in line if point in set(places.values())], [places[node] for node, before in zip(met, [None, *met]) if node != before])
-        drawn = sum(self.network.metres(a, b) for a, b in zip(line, line[1:]))
-        true(abs(drawn - route["distance"]) < 0.01 * drawn + 1, f"{drawn} m are drawn, {route['distance']} m are told")
-        equal([tuple(waypoint["location"]) for waypoint in answer.json["waypoints"]], [self.network.places[node] for node in nodes])
-
-    def along(self, annotation: dict, ends: tuple[int, int], length: float) -> None:
-        """A leg is a walk between its ends over arcs of these lengths."""
-        numbers = {osm: node for node, osm in self.network.osm.items()}
-        nodes = [numbers[osm] for osm in annotation["nodes"]]
-        equal((nodes[0], nodes[-1], len(set(nodes))), (*ends, len(nodes)))
-        steps = {(tail, head, arc_length / 10) for tail, head, arc_length in self.network.arcs}
-        equal([step for step in zip(nodes, nodes[1:], annotation["duration"]) if step not in steps], [])
-        equal((len(annotation["duration"]), round(sum(annotation["duration"]), 1)), (len(nodes) - 1, length))
-
-    def route_options(self) -> None:
-        from polyline import decode
-        full = self.stand.get(f"{ROUTE}?geometries=geojson").json["routes"][0]
-        for query, precision in (("", 5), ("?geometries=polyline6&alternatives=3", 6)):
-            text = self.stand.get(ROUTE + query).json["routes"][0]["geometry"]
-            equal(decode(text, precision, geojson=True), [(round(lon, precision), round(lat, precision)) for lon, lat in full["geometry"]["coordinates"]], query)
-        through = self.stand.get(f"{ROUTE}?waypoints=0;2&overview=false&annotations=true&skip_waypoints=true").json
-        equal(set(through), {"code", "routes"})
-        [route], [leg] = through["routes"], through["routes"][0]["legs"]
-        equal(("geometry" in route, leg["duration"], leg["distance"]), (False, full["duration"], full["distance"]))
-        equal(set(leg["annotation"]), {"nodes", "distance", "duration", "weight", "speed"})
-        there = self.stand.get("route/v1/driving/13.4,52.5;13.4,52.5?geometries=geojson&annotations=nodes").json["routes"][0]
-        equal((there["duration"], there["distance"], len(there["legs"][0]["annotation"]["nodes"]), len(there["geometry"]["coordinates"])), (0, 0, 1, 2))
 
     def fallback(self) -> None:
         """No walk leads to a node whose arcs are closed: its cells are null, or by the straight line."""
@@ -351,11 +298,13 @@ class Gateways:
 def try_gateway(checks: Checks, folder: pathlib.Path, program: pathlib.Path, requests: int) -> None:
     try_outlines(checks)
     made = folder / "town"
-    from_osm(town(folder / "served.osm", 20), made, "--landmarks", 3)
+    path = town(folder / "served.osm", 20)
+    from_osm(path, made, "--landmarks", 3)
     network = Network(made)
     with Stand(folder / "stand", program, made, "--seconds", 90) as stand:
         gateways = Gateways(stand, network)
-        for name in ("nearest", "bearings", "table", "polyline", "route", "route_options", "fallback", "errors", "isochrones", "tokens", "bodies", "suppositions", "changes", "many", "events", "measures"):
+        for name in ("nearest", "bearings", "table", "polyline", "fallback", "errors", "isochrones", "tokens", "bodies", "suppositions", "changes", "many", "events", "measures"):
             checks.run(f"gateway: {name}", getattr(gateways, name))
+        try_routes(checks, stand, network, path)
         try_front(checks, folder, stand, TABLE)
         try_faults(checks, stand, TABLE, requests)

@@ -32,7 +32,7 @@ fn apply(
     let mut reader = given.reader(alloc, 0)?;
     let mut commands = Counted::new(&mut reader);
     let mut writer = CountedWriter::new(writer);
-    Ok(apply_text(alloc, disk, &mut commands, &mut writer))
+    Ok(apply_text(alloc, disk, &mut commands, &(), &mut writer))
 }
 
 fn ask<T: Threads>(

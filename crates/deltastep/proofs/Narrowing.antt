@@ -1,10 +1,10 @@
 -- A search over legs that were narrowed is one over those from which they were.
-use Rattle.std.proofs.Common.{◌≡◌, ℕ, ◌+◌, ◌-◌, ◌*◌, ◌/◌, ◌^◌, ◌<◌, ◌≤◌, ◌⊎◌, List, [], ◌∷◌, length, Contains, Option, None, IsSome, refl, sym, ap, subst, ◌∙◌, inl, inr, arith}
+use Rattle.std.proofs.Common.{◌≡◌, ℕ, ◌+◌, ◌-◌, ◌*◌, ◌/◌, ◌^◌, ◌<◌, ◌≤◌, ◌⊎◌, List, [], ◌∷◌, length, Contains, Option, None, IsSome, refl, sym, ap, subst, ◌∙◌, inl, inr, ⊎_elim, arith}
 use Rattle.std.specs.FinMap.{get, empty}
 use Rattle.std.proofs.Math.Nat.{div-le_of_le-mul, mul-add, mul-le-mul_right}
 use Rattle.roadnet.specs.Net.{Net}
 use Rattle.roadnet.specs.Walks.{RowOf}
-use Rattle.snapshot.specs.Groups.{Groups, IsGrouped, IsNarrowed, IsSnapshotOf, legs_of}
+use Rattle.snapshot.specs.Groups.{Groups, HasLeg, IsGrouped, IsNarrowed, IsSnapshotOf, legs_of}
 use Rattle.snapshot.specs.declared.legs.Leg.{Leg}
 use Rattle.snapshot.specs.declared.legs.Part.{Part}
 use Rattle.snapshot.specs.declared.legs.Part.TheVariants.{Light, Heavy}
@@ -16,7 +16,7 @@ use Rattle.deltastep.proofs.Ending.{AreFinal-beyond}
 use Rattle.deltastep.proofs.Finishing.{IsFinal-over, RowOf-over, entry_of_final}
 
 pub IsNarrowed-self : (groups : Groups) → IsNarrowed groups groups
-IsNarrowed-self groups = record { nodes = refl; delta = omega arith; greatest = refl; legs = λ part u. refl }
+IsNarrowed-self groups = record { nodes = refl; delta = omega arith; greatest = refl; of_wide = λ u leg h. h; of_narrow = λ u leg h. h }
 
 pub IsNarrowedOf-of : (net : Net) (wide narrow : Groups) → IsGrouped wide → IsNarrowed wide narrow → IsSnapshotOf net wide → IsNarrowedOf net narrow
 IsNarrowedOf-of net wide narrow grouped is snapshot = record { wide = wide; grouped = grouped; snapshot = snapshot; narrowed = is }
@@ -28,19 +28,32 @@ module _ (wide narrow : Groups) (is : IsNarrowed wide narrow) where
 
   Trip-wide : (s t : ℕ) (legs : List Leg) → Trip narrow s t legs → Trip wide s t legs
   Trip-wide s t [] trip = trip
-  Trip-wide s t (leg ∷ legs) (part, c, trip) = (part, subst (λ (ls : List Leg). Contains ls leg) (is.legs part s) c, Trip-wide leg.head t legs trip)
+  Trip-wide s t (leg ∷ legs) (part, c, trip) = let there : HasLeg wide s leg = is.of_wide s leg (record { part = part; among = c }) in (there.part, there.among, Trip-wide leg.head t legs trip)
 
-  IsRelaxed-wide : (part : Part) (t : List (Option ℕ)) (u : ℕ) → IsRelaxed narrow part t u → IsRelaxed wide part t u
-  IsRelaxed-wide part t u relaxed leg c = subst (λ (top : ℕ). value_or top t leg.head ≤ value_or top t u + leg.length) top_is (relaxed leg (subst (λ (ls : List Leg). Contains ls leg) (sym (is.legs part u)) c))
+  IsRelaxed-wide : (part : Part) (t : List (Option ℕ)) (u : ℕ) → ((p : Part) → IsRelaxed narrow p t u) → IsRelaxed wide part t u
+  IsRelaxed-wide part t u relaxed leg c =
+      let there : HasLeg narrow u leg = is.of_narrow u leg (record { part = part; among = c }) in
+      subst (λ (top : ℕ). value_or top t leg.head ≤ value_or top t u + leg.length) top_is (relaxed there.part leg there.among)
 
-  IsRelaxedBut-wide : (part : Part) (t : List (Option ℕ)) (queue : Entries) → IsRelaxedBut narrow part t queue [] → IsRelaxedBut wide part t queue []
-  IsRelaxedBut-wide part t queue but u = elim (but u) as (λ _. IsSome (get queue u) ⊎ (Contains [] u ⊎ IsRelaxed wide part t u)) [
-    | inl queued ↦ inl queued
-    | inr rest ↦ inr (elim rest as (λ _. Contains [] u ⊎ IsRelaxed wide part t u) [
-      | inl owed ↦ inl owed
-      | inr relaxed ↦ inr (IsRelaxed-wide part t u relaxed)
-    ])
-  ]
+  both : (t : List (Option ℕ)) (u : ℕ) → IsRelaxed narrow Light t u → IsRelaxed narrow Heavy t u → (p : Part) → IsRelaxed narrow p t u
+  both t u light heavy Light = light
+  both t u light heavy Heavy = heavy
+
+  -- what a node owes that owes nothing else
+  owes : (part : Part) (t : List (Option ℕ)) (queue : Entries) (u : ℕ) → IsSome (get queue u) ⊎ (Contains [] u ⊎ IsRelaxed narrow part t u) → IsSome (get queue u) ⊎ IsRelaxed narrow part t u
+  owes part t queue u (inl queued) = inl queued
+  owes part t queue u (inr (inl owed)) = absurd (let absurdity : ⊥ = omega (arith, owed.1) in absurdity)
+  owes part t queue u (inr (inr relaxed)) = inr relaxed
+
+  IsRelaxedBut-wide : (part : Part) (t : List (Option ℕ)) (queue : Entries) → IsRelaxedBut narrow Light t queue [] → IsRelaxedBut narrow Heavy t queue [] → IsRelaxedBut wide part t queue []
+  IsRelaxedBut-wide part t queue light heavy u =
+      ⊎_elim
+      (λ (queued : IsSome (get queue u)). inl queued)
+      (λ (l : IsRelaxed narrow Light t u). ⊎_elim
+      (λ (queued : IsSome (get queue u)). inl queued)
+      (λ (h : IsRelaxed narrow Heavy t u). inr (inr (IsRelaxed-wide part t u (both t u l h))))
+      (owes Heavy t queue u (heavy u)))
+      (owes Light t queue u (light u))
 
   pub IsBetweenBuckets-wide : (source : ℕ) (t : List (Option ℕ)) (queue : Entries) → IsBetweenBuckets narrow source t queue → IsBetweenBuckets wide source t queue
   IsBetweenBuckets-wide source t queue between = record {
@@ -55,8 +68,8 @@ module _ (wide narrow : Groups) (is : IsNarrowed wide narrow) where
       starts = between.reached.starts;
       reached = λ u x e. let r = between.reached.reached u x e in record { legs = r.legs; trip = Trip-wide source u r.legs r.trip; long = r.long };
     };
-    light = IsRelaxedBut-wide Light t queue between.light;
-    heavy = IsRelaxedBut-wide Heavy t queue between.heavy;
+    light = IsRelaxedBut-wide Light t queue between.light between.heavy;
+    heavy = IsRelaxedBut-wide Heavy t queue between.light between.heavy;
   }
 
   pub IsFinal-wide : (t : List (Option ℕ)) (queue : Entries) (v : ℕ) → IsFinal narrow t queue v → IsFinal wide t queue v

@@ -1,21 +1,22 @@
 //! A search by delta-stepping: bucket after bucket is settled, the least first.
 
-ghost use Rattle.std.specs.Prelude.{◌≡◌, ◌↔◌, ℕ, ◌≤◌, ◌<◌, ◌/◌, ◌*◌, ◌+◌, min, IsTrue, ◌==◌, ◌^◌, [], Contains, Option, IfOk, IfSome, OnOk, MatchBool, MatchOption, All, None, Some, replicate, slice_set, length, vec_len};
+ghost use Rattle.std.specs.Prelude.{◌≡◌, ◌↔◌, ℕ, ◌≤◌, ◌<◌, ◌/◌, ◌*◌, ◌+◌, min, IsTrue, ◌==◌, ◌^◌, ◌++◌, List, [], Contains, Option, IfOk, IfSome, OnOk, MatchBool, MatchOption, All, None, Some, replicate, slice_set, length, vec_len};
 ghost use Rattle.std.specs.List.{IsDistinct};
 ghost use Rattle.std.specs.Bool.{OnTrue, OnFalse};
 ghost use Rattle.std.specs.FinMap as map;
 ghost use Rattle.snapshot.specs.Groups.{IsGrouped, legs_of};
 ghost use Rattle.snapshot.specs.declared.legs.Part.TheVariants.{Light, Heavy};
+ghost use Rattle.buckets.specs.Queue.{Entries};
 ghost use Rattle.relax.specs.Values.{value_or};
 ghost use Rattle.relax.specs.Requests.{requests_of};
-ghost use Rattle.deltastep.specs.Search.{AreLiveFrom, IsBetweenBuckets, EndsPhase, EmptiesBucket, AreInBucket, IsSuited, Suits, top_of, requests_by, weight};
+ghost use Rattle.deltastep.specs.Search.{AreLiveFrom, IsBetweenBuckets, EndsPhase, EmptiesBucket, AreInBucket, IsRelaxedBut, IsSuited, Suits, top_of, requests_by, weight};
 ghost use Rattle.deltastep.specs.Stepping.{IsUnderWay, IsEmptyAt, IsQueuedAt, OwesOnly, HasWidth, HasRoomFrom, IsBetween, StaysBetween, StaysReached, KeepsInBucket, WeighsNoMore, WeighsLess, KeepsEmpty, KeepsQueued, StaysLive, Meets, MeetsOneMore, QueuesWhere, TakesBucket, TellsWindow, IsBehind, IsOver};
 
 use crate::distances::RowError;
 use crate::sifting::sift;
 use frontier::{Frontier, Remembered};
 use relax::Team;
-use roadnet::LONGEST_ARC;
+use roadnet::{LONGEST_ARC, OutOfMemory};
 use snapshot::{Leg, Part, Snapshot};
 use std::alloc::Global;
 
@@ -50,6 +51,24 @@ fn is_alone(snapshot: &Snapshot, nodes: &[u32]) -> bool
         [node] => snapshot.legs(*node, Part::Light).is_empty(),
         _ => false,
     }
+}
+
+/// Remembers nodes, each once, unless no node has heavy legs that it may owe.
+#[inline(always)]
+fn remember(
+    snapshot: &Snapshot,
+    remembered: &mut Remembered,
+    nodes: &[u32],
+) -> Result<(), OutOfMemory>
+    requires within { All (λ u. u < remembered.old.limit) nodes.now }
+    ensures owed { OnOk result ((tentative : List (Option ℕ)) (queue : Entries) → IsRelaxedBut snapshot.now Heavy tentative queue (remembered.old.nodes ++ nodes.now) → IsRelaxedBut snapshot.now Heavy tentative queue remembered.new.nodes) }
+    ensures nodes { OnOk result ((tentative : List (Option ℕ)) (width b : ℕ) → AreInBucket tentative width b remembered.old.nodes → AreInBucket tentative width b nodes.now → AreInBucket tentative width b remembered.new.nodes) }
+    ensures limit { remembered.new.limit ≡ remembered.old.limit }
+{
+    if snapshot.is_joined() {
+        return Ok(());
+    }
+    remembered.add_all(nodes)
 }
 
 /// A search under way: a frontier, which has the least value found so far for each node, and the nodes whose legs are still to be relaxed.
@@ -149,7 +168,7 @@ impl<F: Frontier> Search<F> {
     }
 
     /// Settles a bucket, given the nodes that were taken from it: relaxes light legs while nodes come back into it, and then the heavy legs of all nodes
-    /// that were taken. The bucket is empty afterwards. The list is used for the nodes that come back.
+    /// that were taken, if any node has heavy legs. The bucket is empty afterwards. The list is used for the nodes that come back.
     #[inline(always)]
     pub fn settle<T: Team>(
         &mut self,
@@ -179,6 +198,9 @@ impl<F: Frontier> Search<F> {
             return Ok(());
         }
         self.empty(alloc, snapshot, team, bucket, taken, remembered)?;
+        if remembered.nodes().is_empty() {
+            return Ok(());
+        }
         self.relax(
             alloc,
             snapshot,
@@ -218,7 +240,7 @@ impl<F: Frontier> Search<F> {
         ensures suited { OnOk result (HasWidth F.Frontier snapshot.now self.new) }
     {
         'phases: while !nodes.is_empty() {
-            remembered.add_all(nodes)?;
+            remember(snapshot, remembered, nodes)?;
             self.phase(alloc, snapshot, team, bucket, nodes)?;
         }
         Ok(())

@@ -22,7 +22,7 @@ fn look_up(
     let mut known = Vec::with_capacity(alloc, requests.len())?;
     for request in requests {
         let (node, _value) = *request;
-        known.push(tentative.get(node).unwrap_or(top))?;
+        known.push_reserved(tentative.get(node).unwrap_or(top));
     }
     Ok(known)
 }

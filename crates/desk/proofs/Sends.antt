@@ -13,20 +13,20 @@ use Rattle.published.proofs.publishers.Publisher.TheSendSync as Publishers
 use Rattle.rows.proofs.sights.Sight.TheSendSync as Sights
 use Rattle.store.specs.contracts.store.Store as Store
 use Rattle.store.specs.contracts.store.Store.TheInside as StoreInside
-use Rattle.keeper.specs.contracts.ledgers.Ledger as Ledger
-use Rattle.keeper.specs.contracts.ledgers.Ledger.TheInside as LedgerInside
-use Rattle.keeper.specs.contracts.keepers.Keeper as Keeper
-use Rattle.keeper.specs.contracts.keepers.Keeper.TheInside as KeeperInside
+use Rattle.keeper.specs.contracts.ledger.ledgers.Ledger as Ledger
+use Rattle.keeper.specs.contracts.ledger.ledgers.Ledger.TheInside as LedgerInside
+use Rattle.keeper.specs.contracts.keeper.keepers.Keeper as Keeper
+use Rattle.keeper.specs.contracts.keeper.keepers.Keeper.TheInside as KeeperInside
 use Rattle.office.specs.contracts.offices.Office as Office
 use Rattle.office.specs.contracts.offices.Office.TheInside as OfficeInside
-use Rattle.desk.specs.contracts.held.Held as Held
-use Rattle.desk.specs.contracts.shelves.Shelf as Shelf
-use Rattle.desk.specs.contracts.shelves.Shelf.TheInside as ShelfInside
+use Rattle.desk.specs.contracts.lock.held.Held as Held
+use Rattle.desk.specs.contracts.handles.shelves.Shelf as Shelf
+use Rattle.desk.specs.contracts.handles.shelves.Shelf.TheInside as ShelfInside
 use Rattle.deltastep.proofs.distances.Distances.TheSendSync as Rows
 use Rattle.deltastep.proofs.workspace.Workspace.TheSendSync as Workspaces
 use Rattle.history.proofs.fronts.Front.TheSendSync as Fronts
-use Rattle.desk.specs.contracts.shared.Shared as Shared
-use Rattle.desk.specs.contracts.handles.Handle as Handle
+use Rattle.desk.specs.contracts.lock.shared.Shared as Shared
+use Rattle.desk.specs.contracts.handles.handle.Handle as Handle
 
 ruleset pages = (Pages.the_field_send)
 
@@ -57,17 +57,19 @@ ruleset held = (keeper_send, Histories.the_send, Publishers.the_send)
 office_inside : (N : RattleType) (n : NamingGhosts N.Denot) (D : RattleType) (d : DiskGhosts D.Denot) → IsSend N → IsSend D → IsSend (OfficeInside.the_row N D n d)
 office_inside N n D d t s = search (held, sendable, crosses) depth 20
 
-pub office_send : (N : RattleType) (n : NamingGhosts N.Denot) (D : RattleType) (d : DiskGhosts D.Denot) → IsSend N → IsSend D → IsSend (Office.the_row N D n d)
+office_send : (N : RattleType) (n : NamingGhosts N.Denot) (D : RattleType) (d : DiskGhosts D.Denot) → IsSend N → IsSend D → IsSend (Office.the_row N D n d)
 office_send N n D d t s = view_send _ _ _ _ _ (office_inside N n D d t s)
 
 held_send : (O : RattleType) → IsSend O → IsSend (Held.the_row O)
 held_send O s = search (sendable, crosses) depth 20
 
-shared_send : (O G : RattleType) → IsSend O → IsSend G → IsSend (Shared.the_row O G)
-shared_send O G s t = search (held_send, sendable, crosses) depth 20
+ruleset locked = (office_send, held_send)
 
-shared_sync : (O G : RattleType) → IsSend O → IsSync G → IsSync (Shared.the_row O G)
-shared_sync O G s y = search (held_send, sendable, crosses) depth 20
+pub shared_send : (S N : RattleType) (n : NamingGhosts N.Denot) (D : RattleType) (d : DiskGhosts D.Denot) (G R : RattleType) → IsSend N → IsSend D → IsSend G → IsSend (Shared.the_row S N D G R n d)
+shared_send S N n D d G R t u v = search (locked, sendable, crosses) depth 20
+
+pub shared_sync : (S N : RattleType) (n : NamingGhosts N.Denot) (D : RattleType) (d : DiskGhosts D.Denot) (G R : RattleType) → IsSend N → IsSend D → IsSync G → IsSync (Shared.the_row S N D G R n d)
+shared_sync S N n D d G R t u v = search (locked, sendable, crosses) depth 20
 
 ruleset shelved = (Rows.the_send, Workspaces.the_send, Fronts.the_send, Snapshots.the_send, Snapshots.the_sync)
 
@@ -77,10 +79,10 @@ shelf_inside N n t = search (shelved, sendable, crosses) depth 20
 shelf_send : (N : RattleType) (n : NamingGhosts N.Denot) → IsSend N → IsSend (Shelf.the_row N n)
 shelf_send N n t = view_send _ _ _ _ _ (shelf_inside N n t)
 
-ruleset shared = (office_send, shared_send, shared_sync, shelf_send)
+ruleset shared = (shared_send, shared_sync, shelf_send)
 
-pub handle_sync : (N : RattleType) (n : NamingGhosts N.Denot) (D : RattleType) (d : DiskGhosts D.Denot) (G R : RattleType) → IsSend N → IsSend D → IsSend G → IsSync G → IsSync R → IsSync (Handle.the_row N D G R n d)
-handle_sync N n D d G R s t u v w = search (shared, sendable, crosses) depth 20
+pub handle_sync : (S N : RattleType) (n : NamingGhosts N.Denot) (D : RattleType) (d : DiskGhosts D.Denot) (G R : RattleType) → IsSend N → IsSend D → IsSend G → IsSync G → IsSync R → IsSync (Handle.the_row S N D G R n d)
+handle_sync S N n D d G R s t u v w = search (shared, sendable, crosses) depth 20
 
-pub handle_send : (N : RattleType) (n : NamingGhosts N.Denot) (D : RattleType) (d : DiskGhosts D.Denot) (G R : RattleType) → IsSend N → IsSend D → IsSend G → IsSync G → IsSend R → IsSend (Handle.the_row N D G R n d)
-handle_send N n D d G R s t u v w = search (shared, sendable, crosses) depth 20
+pub handle_send : (S N : RattleType) (n : NamingGhosts N.Denot) (D : RattleType) (d : DiskGhosts D.Denot) (G R : RattleType) → IsSend N → IsSend D → IsSend G → IsSync G → IsSend R → IsSend (Handle.the_row S N D G R n d)
+handle_send S N n D d G R s t u v w = search (shared, sendable, crosses) depth 20

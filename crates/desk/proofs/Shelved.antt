@@ -17,7 +17,7 @@ use Rattle.history.specs.Origins.{Origin, Beginning}
 use Rattle.history.proofs.Beginnings.{prefix_whole}
 use Rattle.desk.specs.Readings.{IsViewAfter}
 use Rattle.desk.specs.Shelves.{AreRowsIn, IsShelfOf, IsOfShelf, IsBackOf, IsTurnedOf, IsAfter, IsAskedAt, IsRowAt, HasRow}
-use Rattle.desk.specs.declared.shelves.KeptRow.{KeptRow}
+use Rattle.desk.specs.declared.handles.shelves.KeptRow.{KeptRow}
 
 -- a new shelf of a view has no row
 pub new_shelf : (origin : Origin) (front : Beginning) (rows : List KeptRow) → front.origin ≡ origin → rows ≡ [] → IsShelfOf origin (Some front) rows

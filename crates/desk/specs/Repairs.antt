@@ -2,7 +2,7 @@
 use Rattle.std.specs.Prelude.{◌≡◌}
 use Rattle.snapshot.specs.Groups.{Groups, IsSnapshotOf}
 use Rattle.deltastep.specs.Repair.{AreChanged, AreTails}
-use Rattle.desk.specs.declared.repairs.Before.{Before}
+use Rattle.desk.specs.declared.threads.repairs.Before.{Before}
 
 -- for each of the legs there is one back
 pub record LeadBackTo (groups back : Groups) : Type 0 where

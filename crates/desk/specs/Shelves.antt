@@ -9,7 +9,7 @@ use Rattle.roadnet.specs.Walks.{RowOf}
 use Rattle.snapshot.specs.Groups.{Groups, IsSnapshotOf}
 use Rattle.rows.specs.Backs.{LeadsBack}
 use Rattle.history.specs.Origins.{Origin, Beginning}
-use Rattle.desk.specs.declared.shelves.KeptRow.{KeptRow}
+use Rattle.desk.specs.declared.handles.shelves.KeptRow.{KeptRow}
 
 abbrev pub most_rows : ℕ
 most_rows = 64

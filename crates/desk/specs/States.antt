@@ -4,9 +4,9 @@ use Rattle.roadnet.specs.Net.{Net}
 use Rattle.history.specs.Origins.{Origin}
 use Rattle.machine.specs.Machine.{Machine, latest, most_of_life, network_at, of_life, pending}
 use Rattle.office.specs.Offices.{RunsFrom}
-use Rattle.desk.specs.declared.states.DeskState.{DeskState}
-use Rattle.desk.specs.declared.states.Working.{Working}
-use Rattle.desk.specs.declared.states.Working.TheVariants.{On, Ended, Broken}
+use Rattle.desk.specs.declared.handles.states.DeskState.{DeskState}
+use Rattle.desk.specs.declared.handles.states.Working.{Working}
+use Rattle.desk.specs.declared.handles.states.Working.TheVariants.{On, Ended, Broken}
 
 -- whether a thread goes on or has ended
 abbrev pub working_of : Bool → Working

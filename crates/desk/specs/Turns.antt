@@ -7,12 +7,12 @@ use Rattle.history.specs.Origins.{Origin, Beginning}
 use Rattle.machine.specs.Machine.{Machine, pending, groups_to}
 use Rattle.machine.specs.Calls.{Submits}
 use Rattle.office.specs.Offices.{RunsFrom}
-use Rattle.desk.specs.declared.attempts.Attempt.{Attempt}
-use Rattle.desk.specs.declared.attempts.Attempt.TheVariants.{Done, NoMemory, Blocked, Failed}
-use Rattle.desk.specs.declared.turns.FlusherTurn.{FlusherTurn}
-use Rattle.desk.specs.declared.turns.FlusherTurn.TheVariants.{Rest, Flush, Checkpoint, End}
-use Rattle.desk.specs.declared.turns.BuilderTurn.{BuilderTurn}
-use Rattle.desk.specs.declared.turns.BuilderTurn.TheVariants.{Rest as rest, Build, End as end}
+use Rattle.desk.specs.declared.threads.attempts.Attempt.{Attempt}
+use Rattle.desk.specs.declared.threads.attempts.Attempt.TheVariants.{Done, NoMemory, Blocked, Failed}
+use Rattle.desk.specs.declared.lock.turns.FlusherTurn.{FlusherTurn}
+use Rattle.desk.specs.declared.lock.turns.FlusherTurn.TheVariants.{Rest, Flush, Checkpoint, End}
+use Rattle.desk.specs.declared.lock.turns.BuilderTurn.{BuilderTurn}
+use Rattle.desk.specs.declared.lock.turns.BuilderTurn.TheVariants.{Rest as rest, Build, End as end}
 
 -- half of the journal's pages, or more, are unchecked
 abbrev pub is_checkpoint_due : Machine → Bool

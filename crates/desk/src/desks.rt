@@ -7,24 +7,22 @@ ghost use Rattle.office.specs.Left.{KeepsDesk};
 ghost use Rattle.disk.specs.Contents.{AreAmong};
 ghost use Rattle.desk.specs.Openings.{IsNewDesk, IsUnstarted};
 
-use crate::building::build_views;
-use crate::flushing::flush_pending;
-use crate::gates::Gate;
-use crate::handles::Handle;
-use crate::plans::Plan;
-use crate::shared::Shared;
-use crate::shelves::Shelf;
-use crate::threads::{Started, start_threads};
-use disk::Disk;
+use crate::handles::handle::Handle;
+use crate::handles::shelves::Shelf;
+use crate::lock::shared::Shared;
+use crate::served::{Served, ServedApart};
+use crate::threads::building::build_views;
+use crate::threads::flushing::flush_pending;
+use crate::threads::plans::Plan;
+use crate::threads::starting::{Started, start_thread};
 use history::History;
-use office::{Closed, Naming, Office};
+use office::{Closed, Office};
 use roadnet::Refusal;
 use rows::Ran;
 use std::alloc::Global;
 use std::ops::Deref;
-use std::sync::{Arc, Mutex, Wait};
-use std::thread::Threads;
-use std::time::{Clock, Duration, Instant};
+use std::sync::{Arc, Mutex};
+use std::time::{Duration, Instant};
 use store::Store;
 
 /// How a desk builds its views, and how long callers wait for one.
@@ -41,34 +39,50 @@ pub struct Setup {
 }
 
 /// Starts the flusher and the builder of a desk. If the system gives no thread (63), neither runs.
-fn start_both<
-    N: Naming + Send + Sync + 'static,
-    D: Disk + Drop + Send + 'static,
-    G: Gate + Drop + Send + Sync + 'static,
-    R: Threads + Wait + Clock + Copy + Send + Sync + 'static,
->(rt: R, shared: &Arc<Shared<Office<N, D>, G>>, plan: Plan) -> Result<Started, Refusal>
+fn start_both<S: Served + Send + 'static>(
+    rt: S::Runtime,
+    shared: &Arc<Shared<S>>,
+    plan: Plan,
+) -> Result<Started, Refusal>
+where
+    S::Naming: Send + Sync + 'static,
+    S::Disk: Send + 'static,
+    S::Gate: Send + Sync + 'static,
+    S::Runtime: Send + Sync + 'static,
     ensures causes { IfErr result IsUnstarted }
 {
-    start_threads(
-        rt,
-        shared,
-        |rt: R, shared: Arc<Shared<Office<N, D>, G>>| flush_pending(&rt, &shared),
-        move |rt: R, shared: Arc<Shared<Office<N, D>, G>>| build_views(&rt, &shared, &plan),
-    )
+    let (Ok(of_flusher), Ok(of_builder)) = (Arc::try_clone(shared), Arc::try_clone(shared)) else {
+        return Err(Refusal::OutOfMemory);
+    };
+    let flusher = start_thread(
+        &rt,
+        of_flusher,
+        move |shared: Arc<Shared<S>>| flush_pending(&rt, &shared),
+    )?;
+    let Ok(builder) = start_thread(
+        &rt,
+        of_builder,
+        move |shared: Arc<Shared<S>>| build_views(&rt, &shared, &plan),
+    ) else {
+        shared.halt(&rt);
+        flusher.join(&rt);
+        return Err(Refusal::NoThread);
+    };
+    Ok(Started { flusher, builder })
 }
 
 /// A store that is served: one thread makes groups durable, and another shows them. It has the calls of its handle, which it lends to other threads.
 ///
 /// A desk that is dropped without `close` halts, waits for its threads, and closes the readers' copy: its readers can no longer look, and each call of a
 /// remaining handle is refused (61).
-pub struct Desk<N: Naming, D: Disk + Drop, G: Gate + Drop, R: Threads + Wait + Copy> {
-    handle: Handle<N, D, G, R>,
+pub struct Desk<S: Served> {
+    handle: Handle<S>,
     threads: Started,
     // How the builder builds views.
     plan: Plan,
 }
 
-impl<N: Naming, D: Disk + Drop, G: Gate + Drop, R: Threads + Wait + Copy> Ran for Desk<N, D, G, R> {
+impl<S: Served> Ran for Desk<S> {
     ghost width_given = { λ desk. desk.plan.delta };
 
     ghost workers_given = { λ desk. Some desk.plan.workers };
@@ -82,47 +96,38 @@ impl<N: Naming, D: Disk + Drop, G: Gate + Drop, R: Threads + Wait + Copy> Ran fo
     }
 }
 
-impl<N: Naming, D: Disk + Drop, G: Gate + Drop, R: Threads + Wait + Copy> Drop
-    for Desk<N, D, G, R> {
+impl<S: Served> Drop for Desk<S> {
     fn drop(self) {
         let _ = self.close();
     }
 }
 
-impl<N: Naming, D: Disk + Drop, G: Gate + Drop, R: Threads + Wait + Copy> Deref
-    for Desk<N, D, G, R> {
-    type Target = Handle<N, D, G, R>;
+impl<S: Served> Deref for Desk<S> {
+    type Target = Handle<S>;
 
-    fn deref(&self) -> &Handle<N, D, G, R> {
+    fn deref(&self) -> &Handle<S> {
         &self.handle
     }
 }
 
-impl<
-    N: Naming + Send + Sync + 'static,
-    D: Disk + Drop + Send + 'static,
-    G: Gate + Drop + Send + Sync + 'static,
-    R: Threads + Wait + Copy + Send + Sync + 'static,
-> Desk<N, D, G, R> {
+impl<S: ServedApart> Desk<S> {
     /// Serves a store that is not broken, with the history of a new desk. This call builds the first view. The row workers make the rows of its landmarks,
     /// without a call of the gate.
     ///
     /// It fails with 11 for lack of memory, and with 63 if the system gives no thread. Then the store is dropped, and no thread runs.
     pub fn start(
-        rt: R,
+        rt: S::Runtime,
         alloc: Global,
         history: History,
-        store: Store<D>,
-        gate: G,
+        store: Store<S::Disk>,
+        gate: S::Gate,
         setup: Setup,
-    ) -> Result<Desk<N, D, G, R>, Refusal>
-    where
-        R: Clock,
+    ) -> Result<Desk<S>, Refusal>
         requires calm { is_calm store ≡ true }
         requires width { ForSome setup.delta IsWidth }
         requires workers { (1 ≤ setup.workers) × (setup.workers ≤ 64) }
-        requires new { IsNewDesk N.origin history store }
-        requires came_tidy { N.came_tidy → CameTidy D.honest D.content store.given }
+        requires new { IsNewDesk S.Naming.origin history store }
+        requires came_tidy { S.Naming.came_tidy → CameTidy S.Disk.honest S.Disk.content store.given }
         ensures causes { IfErr result IsUnstarted }
         // It builds by the setup.
         ensures width { IfOk result (λ desk. desk.plan.delta ≡ setup.delta) }
@@ -162,7 +167,7 @@ impl<
     }
 }
 
-impl<N: Naming, D: Disk + Drop, G: Gate + Drop, R: Threads + Wait + Copy> Desk<N, D, G, R> {
+impl<S: Served> Desk<S> {
     /// Halts the desk, and waits until its flusher has ended. Then what was accepted is durable, or never will be, and nothing more is written to the disk.
     /// The last view may still be built.
     pub fn end_writing(&self) {
@@ -176,7 +181,7 @@ impl<N: Naming, D: Disk + Drop, G: Gate + Drop, R: Threads + Wait + Copy> Desk<N
     }
 
     /// What threads share to call the desk at the same time.
-    pub fn handle(&self) -> &Handle<N, D, G, R> {
+    pub fn handle(&self) -> &Handle<S> {
         &self.handle
     }
 
@@ -184,13 +189,13 @@ impl<N: Naming, D: Disk + Drop, G: Gate + Drop, R: Threads + Wait + Copy> Desk<N
     /// Others may still have handles: from then on each call of theirs is refused (61), and nobody waits.
     ///
     /// It would fail with 61 if the office had been taken out before, which never happens.
-    pub fn close(self) -> Result<Closed<D>, Refusal>
-        ensures origin { IfOk result (λ closed. closed.whole.origin ≡ N.origin) }
+    pub fn close(self) -> Result<Closed<S::Disk>, Refusal>
+        ensures origin { IfOk result (λ closed. closed.whole.origin ≡ S.Naming.origin) }
         ensures causes { IfErr result (λ refusal. refusal ≡ closed) }
         // The disk keeps the disk model.
-        ensures honest { N.came_tidy → IfOk result (λ closed. D.honest closed.disk) }
+        ensures honest { S.Naming.came_tidy → IfOk result (λ closed. S.Disk.honest closed.disk) }
         // What a stop may leave on the disk stands for the network after a front of the history that has everything acknowledged or shown.
-        ensures left { N.came_tidy → IfOk result (λ closed. AreAmong (D.left closed.disk) (KeepsDesk closed.whole closed.shown closed.journal_pages)) }
+        ensures left { S.Naming.came_tidy → IfOk result (λ closed. AreAmong (S.Disk.left closed.disk) (KeepsDesk closed.whole closed.shown closed.journal_pages)) }
     {
         let Desk {
             handle,

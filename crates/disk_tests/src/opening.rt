@@ -1,6 +1,7 @@
 use crate::fakes::Swapped;
 use crate::paths::own_path;
-use filedisk::{OpenError, create_file, folder_of, open_file, open_to_read, resolve};
+use filedisk::{Cause, OpenError, create_file, folder_of, open_file, open_to_read, resolve};
+use std::io::ErrorKind;
 use std::os::fd::AsRawFd;
 use std::os::unix::fs::symlink;
 use std::path::Path;
@@ -24,7 +25,11 @@ fn links_in_a_circle(rt: HostRuntime) -> Result<(), Fail> {
     let circle = own_path(&rt, "circle")?;
     symlink(&rt, circle.as_str(), circle.as_str())?;
     assert!(rt; resolve(&rt, circle.as_str()).is_err());
-    assert!(rt; create_file(&rt, circle.as_str()).err() == Some(OpenError::NotOpened));
+    let cause = Cause {
+        kind: ErrorKind::FilesystemLoop,
+        number: None,
+    };
+    assert!(rt; create_file(&rt, circle.as_str()).err() == Some(OpenError::NotOpened(cause)));
     fs::remove_file(&rt, circle.as_str())?;
     Ok(())
 }
@@ -52,7 +57,11 @@ fn a_new_file_that_is_refused(rt: HostRuntime) -> Result<(), Fail> {
     let path = own_path(&rt, "new")?;
     let path = path.as_str();
     let folder = env::temp_dir(&rt)?;
-    let not_synced = (Some(OpenError::NameNotSynced), true);
+    let cause = Cause {
+        kind: ErrorKind::InvalidInput,
+        number: Some(22),
+    };
+    let not_synced = (Some(OpenError::NameNotSynced(cause)), true);
     assert!(rt; told_by_other(&rt, path, path, "/proc/self/status") == not_synced);
     assert!(rt; told_by_other(&rt, path, folder.as_str(), "/proc/self/task") == not_synced);
     let no_file = (Some(OpenError::NoFile), true);

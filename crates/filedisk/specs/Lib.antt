@@ -1,3 +1,4 @@
+pub mod Causes
 pub mod Files
 pub mod MemFiles
 pub mod Noted

@@ -1,16 +1,22 @@
 -- With what a file that is there is not opened for a disk.
 use Rattle.std.specs.Prelude.{⊤}
 use Rattle.std.specs.declared.io.ErrorKind.{ErrorKind}
-use Rattle.std.specs.declared.io.ErrorKind.TheVariants.{NotFound, PermissionDenied, IsADirectory, WouldBlock}
+use Rattle.std.specs.declared.io.ErrorKind.TheVariants.{NotFound, PermissionDenied, ReadOnlyFilesystem, IsADirectory, WouldBlock}
+use Rattle.filedisk.specs.declared.causes.Cause.{Cause}
 use Rattle.filedisk.specs.declared.opened.OpenError.{OpenError}
-use Rattle.filedisk.specs.declared.opened.OpenError.TheVariants.{Missing, NotPermitted, NotOpened, Folder, NoFile, InUse, NoLocks}
+use Rattle.filedisk.specs.declared.opened.OpenError.TheVariants.{Missing, NotPermitted, ReadOnly, NotOpened, Folder, NoFile, InUse, NoLocks}
+
+-- why a file is not opened, by the kind of the cause; one of no such kind is told itself
+abbrev pub unopened_by : ErrorKind → Cause → OpenError
+unopened_by NotFound cause = Missing
+unopened_by PermissionDenied cause = NotPermitted
+unopened_by ReadOnlyFilesystem cause = ReadOnly
+unopened_by IsADirectory cause = Folder
+unopened_by _ cause = NotOpened cause
 
 -- why a file is not opened at whose opening the system failed so
-abbrev pub why_unopened : ErrorKind → OpenError
-why_unopened NotFound = Missing
-why_unopened PermissionDenied = NotPermitted
-why_unopened IsADirectory = Folder
-why_unopened _ = NotOpened
+abbrev pub why_unopened : Cause → OpenError
+why_unopened cause = unopened_by cause.kind cause
 
 -- why a file is not locked at whose locking the system failed so
 abbrev pub why_unlocked : ErrorKind → OpenError
@@ -27,7 +33,8 @@ IsUnlocked other = ⊥
 abbrev pub IsNotHad : OpenError → Type 0
 IsNotHad Missing = ⊤
 IsNotHad NotPermitted = ⊤
-IsNotHad NotOpened = ⊤
+IsNotHad ReadOnly = ⊤
+IsNotHad (NotOpened cause) = ⊤
 IsNotHad Folder = ⊤
 IsNotHad NoFile = ⊤
 IsNotHad InUse = ⊤

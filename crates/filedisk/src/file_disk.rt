@@ -2,6 +2,7 @@
 ghost use Rattle.std.specs.Prelude.{◌≡◌};
 ghost use Rattle.disk.specs.Contents.{failures_after};
 
+use crate::causes::Failure;
 use crate::system::FileLock;
 use crate::whole::{read_whole, write_whole};
 use crate::{RawFile, SystemFile};
@@ -59,6 +60,11 @@ impl FileDisk<SystemFile> {
         ensures { IfOk result (λ lock. calls_by lock ≡ (Duplicate, Done) ∷ calls_of self.now) }
     {
         self.file.held()
+    }
+
+    /// The last call on the file that failed.
+    pub fn last_failure(&self) -> Option<Failure> {
+        self.file.failure()
     }
 }
 

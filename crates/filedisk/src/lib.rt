@@ -1,6 +1,7 @@
 //! A disk in a file of the system.
 #![tactic(auto)]
 
+mod causes;
 mod file_disk;
 mod mem_file;
 mod names;
@@ -11,6 +12,7 @@ mod system;
 mod system_file;
 mod whole;
 
+pub use causes::{Call, Cause, Failure};
 pub use file_disk::FileDisk;
 pub use mem_file::MemFile;
 pub use names::{folder_of, resolve};

@@ -1,12 +1,14 @@
 //! Opening files for a disk.
 ghost use Rattle.std.specs.Prelude.{◌≡◌, [], ◌∷◌, false, IfOk, IfErr, OnOk};
 ghost use Rattle.std.specs.IoError.{error_kind};
+ghost use Rattle.filedisk.specs.Causes.{cause_of};
 ghost use Rattle.filedisk.specs.Files.{failures_of};
 ghost use Rattle.filedisk.specs.Noted.{Lock, SyncAll, SyncFolder, Done, has_failed_sync};
 ghost use Rattle.filedisk.specs.Opened.{IsNotHad, IsUnlocked, why_unlocked, why_unopened};
 ghost use Rattle.filedisk.specs.SystemFiles.{calls_made, calls_of};
 ghost use Rattle.filedisk.specs.declared.notes.Share.TheVariants.{Alone, WithReaders};
 
+use crate::causes::Cause;
 use crate::names::{folder_of, resolve};
 use crate::notes::Share;
 use crate::system::NotedFile;
@@ -22,14 +24,17 @@ use thiserror::Error;
 #[derive(Clone, Copy, Debug, PartialEq, Eq, Error)]
 pub enum OpenError {
     /// There is no such file, or no such folder.
-    #[error("there is no such file")]
+    #[error("there is no such file or folder")]
     Missing,
     /// The system does not permit opening it in this way.
     #[error("opening it is not permitted")]
     NotPermitted,
+    /// It is to be written, and its file system is read-only.
+    #[error("its file system is read-only")]
+    ReadOnly,
     /// The system does not open it, for another reason.
-    #[error("it can't be opened")]
-    NotOpened,
+    #[error("it can't be opened: {0}")]
+    NotOpened(Cause),
     /// It is a folder.
     #[error("it is a folder")]
     Folder,
@@ -40,14 +45,14 @@ pub enum OpenError {
     #[error("it is a link")]
     Link,
     /// It is open elsewhere, and the lock is not shared.
-    #[error("it is in use")]
+    #[error("it is in use by another process")]
     InUse,
     /// The system cannot lock it, for example because its file system has no locks.
     #[error("it can't be locked")]
     NoLocks,
     /// The name of a new file was not made durable.
-    #[error("its folder can't be synced")]
-    NameNotSynced,
+    #[error("its name can't be made durable: {0}")]
+    NameNotSynced(Cause),
     /// There is no memory for the file's name.
     #[error("out of memory")]
     OutOfMemory,
@@ -58,13 +63,14 @@ const MODE: u32 = 0o664;
 
 /// Why a file is not opened, given the system's error.
 pub fn why_unopened(error: &io::Error) -> OpenError
-    ensures { result ≡ why_unopened (error_kind error.now) }
+    ensures { result ≡ why_unopened (cause_of error.now) }
 {
     match error.kind() {
         ErrorKind::NotFound => OpenError::Missing,
         ErrorKind::PermissionDenied => OpenError::NotPermitted,
+        ErrorKind::ReadOnlyFilesystem => OpenError::ReadOnly,
         ErrorKind::IsADirectory => OpenError::Folder,
-        _ => OpenError::NotOpened,
+        _ => OpenError::NotOpened(Cause::of(error)),
     }
 }
 
@@ -221,6 +227,11 @@ fn open_or_make<R: Files<File = File>>(rt: &R, path: &str) -> Result<(File, bool
     }
 }
 
+/// The error for a name that is not made durable.
+fn not_synced(error: &io::Error) -> OpenError {
+    OpenError::NameNotSynced(Cause::of(error))
+}
+
 /// Makes the name durable under which a file was opened: the file and its folder are synced.
 fn sync_name<R: Files<File = File>>(
     rt: &R,
@@ -229,16 +240,17 @@ fn sync_name<R: Files<File = File>>(
 ) -> Result<(), OpenError>
     ensures { OnOk result (calls_made file.new ≡ (SyncFolder, Done) ∷ (SyncAll, Done) ∷ calls_made file.old) }
 {
-    let Ok(folder) = File::open(rt, folder_of(path.as_path())) else {
-        return Err(OpenError::NameNotSynced);
+    let folder = match File::open(rt, folder_of(path.as_path())) {
+        Ok(folder) => folder,
+        Err(error) => return Err(not_synced(&error)),
     };
     match file.sync_all() {
         Ok(()) => {}
-        Err(_) => return Err(OpenError::NameNotSynced),
+        Err(error) => return Err(not_synced(&error)),
     }
     match file.sync_folder(&folder) {
         Ok(()) => Ok(()),
-        Err(_) => Err(OpenError::NameNotSynced),
+        Err(error) => Err(not_synced(&error)),
     }
 }
 

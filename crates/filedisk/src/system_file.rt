@@ -3,6 +3,7 @@ ghost use Rattle.std.specs.Prelude.{◌≡◌, ◌≤◌, [], ◌∷◌, true, f
 ghost use Rattle.filedisk.specs.Noted.{Size, Read, Write, Lengthen, SyncAll, SyncData, told, done, gave, Makes, MakesSync, has_failed_sync, has_synced_length};
 
 use crate::RawFile;
+use crate::causes::{Call, Failure};
 use crate::system::{FileLock, NotedFile};
 use std::fs::File;
 use std::io;
@@ -17,6 +18,8 @@ pub struct SystemFile {
     file: NotedFile<File>,
     sync_failed: bool,
     length_synced: bool,
+    // The last call that failed.
+    failure: Option<Failure>,
     ghost failed: { sync_failed ≡ has_failed_sync file.notes.calls },
     ghost synced: { length_synced ≡ true → has_synced_length file.notes.calls ≡ true },
 }
@@ -54,6 +57,16 @@ fn read_uninterrupted(file: &mut NotedFile<File>, at: u64, into: &mut [u8]) -> i
     file.read(at, into)
 }
 
+/// The answer. Its failure is kept.
+fn kept<T>(failure: &mut Option<Failure>, call: Call, answer: io::Result<T>) -> io::Result<T>
+    ensures { result ≡ answer }
+{
+    if let Err(error) = &answer {
+        *failure = Some(Failure::of(call, error));
+    }
+    answer
+}
+
 impl SystemFile {
     ghost use Rattle.filedisk.specs.Noted.{Duplicate, Done};
     ghost use Rattle.filedisk.specs.SystemFiles.{calls_made, calls_by};
@@ -67,7 +80,15 @@ impl SystemFile {
             file,
             sync_failed: false,
             length_synced: false,
+            failure: None,
         }
+    }
+
+    /// The last call on the file that failed.
+    pub fn failure(&self) -> Option<Failure>
+        ensures { result ≡ self.now.failure }
+    {
+        self.failure
     }
 
     /// The file's lock.
@@ -93,20 +114,24 @@ impl RawFile for SystemFile {
     ghost honest = { λ _. ⊥ };
 
     fn size(&mut self) -> io::Result<u64> {
-        self.file.size()
+        let answer = self.file.size();
+        kept(&mut self.failure, Call::Size, answer)
     }
 
     fn read_some(&mut self, at: u64, into: &mut [u8]) -> io::Result<usize> {
-        read_uninterrupted(&mut self.file, at, into)
+        let answer = read_uninterrupted(&mut self.file, at, into);
+        kept(&mut self.failure, Call::Read, answer)
     }
 
     fn lengthen(&mut self, size: u64) -> io::Result<()> {
         self.length_synced = false;
-        self.file.lengthen(size)
+        let answer = self.file.lengthen(size);
+        kept(&mut self.failure, Call::Lengthen, answer)
     }
 
     fn write_some(&mut self, at: u64, bytes: &[u8]) -> io::Result<usize> {
-        write_uninterrupted(&mut self.file, at, bytes)
+        let answer = write_uninterrupted(&mut self.file, at, bytes);
+        kept(&mut self.failure, Call::Write, answer)
     }
 
     fn sync(&mut self) -> io::Result<()> {
@@ -122,7 +147,7 @@ impl RawFile for SystemFile {
             Ok(()) => self.length_synced = true,
             Err(_) => self.sync_failed = true,
         }
-        answer
+        kept(&mut self.failure, Call::Sync, answer)
     }
 
     ghost leaves_content = { λ _ never. absurd never };

@@ -20,7 +20,7 @@ use Rattle.roadnet.proofs.InTurn.{changed_by_all_is, groups_are_their_commands, 
 use Rattle.roadnet.proofs.Kept.{admitted_lay, past_first, within_length}
 use Rattle.roadnet.proofs.Members.{is_member-beyond}
 use Rattle.roadnet.proofs.Stepped.{group_admitted, length-update_nth, nth-added, nth-beside, nth-update_nth, nth-update_nth_other}
-use Rattle.keeper.specs.declared.leading.Seen.{Seen}
+use Rattle.keeper.specs.declared.networks.leading.Seen.{Seen}
 use Rattle.keeper.specs.Leading.{Sees}
 
 -- ---- a command

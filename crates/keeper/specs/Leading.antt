@@ -2,7 +2,7 @@
 use Rattle.std.specs.Prelude.{◌≡◌, ℕ, length}
 use Rattle.roadnet.specs.Net.{Net, arc_at}
 use Rattle.roadnet.specs.Step.{is_landmark}
-use Rattle.keeper.specs.declared.leading.Seen.{Seen}
+use Rattle.keeper.specs.declared.networks.leading.Seen.{Seen}
 
 -- this is seen of the network at arc k and node k
 pub record Sees (net : Net) (k : ℕ) (seen : Seen) : Type 0 where

@@ -2,27 +2,13 @@
 //! queries. Each of its calls is a step of the machine of the crate `machine`.
 #![tactic(auto)]
 
-mod asking;
-mod beginning;
-mod carrying;
-mod checkpoints;
-mod counts;
-mod entries;
-mod flushing;
-mod keepers;
-mod leading;
-mod ledgers;
-mod numbers;
-mod offices;
-mod same;
-mod starting;
-mod submitting;
-mod tasks;
-mod writing;
+mod keeper;
+mod ledger;
+mod networks;
 
-pub use carrying::carry_out_in_turn;
-pub use keepers::Keeper;
-pub use ledgers::Ledger;
+pub use keeper::keepers::Keeper;
+pub use keeper::starting::view_of;
+pub use keeper::tasks::{GroupTask, Task};
+pub use ledger::ledgers::Ledger;
 pub use machine::{Answer, Event, Receipt, Replied, Ticket, Writing};
-pub use starting::view_of;
-pub use tasks::{GroupTask, Task};
+pub use networks::carrying::carry_out_in_turn;

@@ -5,23 +5,20 @@ ghost use Rattle.rows.specs.Kept.{IsWidth};
 ghost use Rattle.store.specs.State.{CameTidy, is_calm};
 ghost use Rattle.desk.specs.Openings.{IsNewDesk};
 
-use crate::boards::{Board, Watch};
 use crate::moves::{caller_of, play_moves};
-use crate::setups::{Kept, gate_of, left_by, setup_of, store_of};
 use blocks::Given;
-use desk::{Closed, Desk, History, Naming, ServeRuntime, Setup};
+use desk::{Closed, Desk, History, Naming, Setup};
 use disk::Disk;
 use roadnet::Refusal;
+use stages::{Board, CaseRuntime, Kept, OfCase, Watch, gate_of, left_by, setup_of, store_of};
 use std::alloc::Global;
 use std::io::Write;
 use std::marker::Brand;
 use std::sync::Wait;
-use std::thread::Threads;
-use std::time::Clock;
 use store::Store;
 
 /// A desk is started, called and closed. The answers are added.
-fn call_desk<N: Naming + Send + Sync + 'static, R: ServeRuntime>(
+fn call_desk<N: Naming + Send + Sync + 'static, R: CaseRuntime>(
     rt: R,
     alloc: Global,
     history: History,
@@ -38,7 +35,7 @@ fn call_desk<N: Naming + Send + Sync + 'static, R: ServeRuntime>(
     requires new { IsNewDesk N.origin history store }
     requires came_tidy { N.came_tidy → CameTidy ⟦<Kept as Disk>⟧.honest ⟦<Kept as Disk>⟧.content store.given }
 {
-    let desk: Desk<N, Kept, Watch<R>, R> = Desk::start(rt, alloc, history, store, gate, setup)?;
+    let desk: Desk<OfCase<N, R>> = Desk::start(rt, alloc, history, store, gate, setup)?;
     let mut caller = caller_of::<N>(alloc);
     let told = play_moves(&rt, alloc, &desk, board, given, &mut caller, out);
     let closed = desk.close()?;
@@ -73,7 +70,7 @@ fn put_noted<R: Wait>(
 }
 
 /// Plays a case once.
-fn play_once<R: ServeRuntime>(
+fn play_once<R: CaseRuntime>(
     rt: R,
     alloc: Global,
     given: Given<'_, '_>,
@@ -102,7 +99,7 @@ fn play_once<R: ServeRuntime>(
 }
 
 /// Plays a case, and again while a call was late.
-pub(crate) fn play<R: ServeRuntime>(
+pub(crate) fn play<R: CaseRuntime>(
     rt: R,
     alloc: Global,
     given: Given<'_, '_>,

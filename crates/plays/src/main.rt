@@ -1,14 +1,11 @@
-//! Plays the cases of the files that its words name, or of standard input where there are none: calls of a desk over a store in memory, sessions with one client, and with
-//! many at doors. Tells on standard error each case that comes out otherwise than its file says, and how many there were. The status is 0 where all came out as they
-//! are to, and there was one at least.
+//! Plays the cases of the files that its words name, or of standard input where there are none: calls of a desk over a store in memory. Tells on standard error each case
+//! that comes out otherwise than its file says, and how many there were. The status is 0 where all came out as they are to, and there was one at least.
 //!
-//! The texts of a case are what its desk is called, or what its clients send; before them may stand the text of a network, which is else that of the worked rows.
+//! The last text of a case is what its desk is called; before it may stand the text of a network, which is else that of the worked rows.
 //!
 //! | Call | Plays |
 //! |---|---|
 //! | `desk` | a desk is started, called line by line, and closed |
-//! | `session` | the lines of a client are answered by a desk |
-//! | `doors` | each text is sent by the clients of a door of its own, all doors at once |
 //! | `outlived` | a desk is closed, or let go, while others have a handle, a ticket, a place and a reader |
 //!
 //! Each has these options, beside those of all cases:
@@ -26,43 +23,28 @@
 //! | `brief`, `confirmed` | of a `desk` it is not told what the gate noted, or it is told how many receipts it confirms when it is closed |
 //! | `stop PICK` | the disk that is left is stopped with this pick before it is opened |
 //! | `rounds N` | it is played again while a call was late, so often at most |
-//! | `left`, `told` | of a `session` it is told what is left, of `doors` what their clients are answered |
-//! | `halted`, `crowded` | sessions find the desk halted, or with as many readers as it may have |
-//! | `alone`, `copies` | the sessions ask alone, or the copies that they ask for are made |
-//! | `count N`, `clients N`, `asking N` | there are so many doors, in place of one for each text; so many clients come to each, one after the other, and this door's ask alone |
 #![tactic(auto)]
 
-mod answering;
-mod boards;
-mod crowds;
 mod desks;
-mod doors;
 mod moves;
 mod outlived;
-mod own_texts;
-mod setups;
 
 use blocks::{Call, Calls, Given, run_files};
-use desk::ServeRuntime;
-use setups::OPTIONS;
+use stages::CaseRuntime;
 use std::alloc::Global;
 use std::io;
 use std::io::Write;
 use std::process::ExitCode;
-use std::sync::Wait;
-use std::thread::Threads;
-use std::time::Clock;
+
+/// The options of both calls: behind one that ends with `=` stands its value.
+const OPTIONS: &str =
+    "network landmarks= room= pages= version= delta= workers= patience= held= flush-misses= task-misses= step-misses= short-for= stop= rounds= brief confirmed";
 
 /// The calls of the cases.
-const CALLS: &[Call] = &[
-    ("desk", OPTIONS),
-    ("session", OPTIONS),
-    ("doors", OPTIONS),
-    ("outlived", OPTIONS),
-];
+const CALLS: &[Call] = &[("desk", OPTIONS), ("outlived", OPTIONS)];
 
 /// Makes the call of a case, and adds what comes out.
-fn play<R: ServeRuntime>(
+fn play<R: CaseRuntime>(
     rt: R,
     alloc: Global,
     given: Given<'_, '_>,
@@ -70,8 +52,6 @@ fn play<R: ServeRuntime>(
 ) -> io::Result<()> {
     let told = match given.head.word(0) {
         "desk" => desks::play(rt, alloc, given, out),
-        "session" => answering::play(rt, alloc, given, out),
-        "doors" => doors::play(rt, alloc, given, out),
         _ => outlived::play(rt, alloc, given, out),
     };
     match told {

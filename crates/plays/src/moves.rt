@@ -1,17 +1,13 @@
 // What a caller of a desk does, a line each.
 ghost use Rattle.std.specs.Prelude.{◌≡◌};
 
-use crate::boards::{Board, Watch, reaches};
-use crate::crowds::{all_readers, callers, wake};
-use crate::setups::Kept;
 use blocks::Given;
-use desk::{
-    Closed, Desk, Handle, Naming, Reader, Receipt, Refused, ServeRuntime, ServedNaming, Ticket,
-};
+use desk::{Closed, Desk, Handle, Naming, Reader, Receipt, Refused, Served, ServedApart, Ticket};
 use dimacs::read_command;
 use disk::Disk;
 use roadnet::{Command, Group, Refusal};
 use rows::Reply;
+use stages::{Board, Kept, SHORTER, all_readers, callers, wake};
 use std::alloc::Global;
 use std::collections::VecDeque;
 use std::io::Write;
@@ -20,14 +16,8 @@ use std::sync::Wait;
 use std::thread::{self, Threads};
 use std::time::{Clock, Duration};
 
-/// A desk of a case, as its callers have it.
-pub(crate) type Called<N, R> = Handle<N, Kept, Watch<R>, R>;
-
 /// How often a reader looks at most, a millisecond apart.
 const MOST_TURNS: u32 = 10000;
-
-/// The command with which a desk is filled.
-pub(crate) const SHORTER: Command = Command::Set { arc: 8, length: 4 };
 
 /// A ticket of this desk.
 #[derive(Drop)]
@@ -98,16 +88,20 @@ impl<N: Naming> Caller<N> {
     }
 
     /// Submits a group, and keeps its ticket.
-    fn submit<R: ServeRuntime>(
+    fn submit<S: Served<Naming = N>>(
         &mut self,
-        desk: &Called<N, R>,
+        desk: &Handle<S>,
         group: Group,
     ) -> Result<u64, Refusal> {
         self.keep(desk.submit_group(group)?)
     }
 
     /// Submits so many commands. Told is the last number.
-    fn fill<R: ServeRuntime>(&mut self, desk: &Called<N, R>, count: u64) -> Result<u64, Refusal> {
+    fn fill<S: Served<Naming = N>>(
+        &mut self,
+        desk: &Handle<S>,
+        count: u64,
+    ) -> Result<u64, Refusal> {
         let mut last = 0;
         for _ in 0..count {
             last = self.submit(desk, Group::one(SHORTER))?;
@@ -116,9 +110,9 @@ impl<N: Naming> Caller<N> {
     }
 
     /// Submits so many commands, and settles each before the next. Told is the last number.
-    fn settle_each<R: ServeRuntime>(
+    fn settle_each<S: Served<Naming = N>>(
         &mut self,
-        desk: &Called<N, R>,
+        desk: &Handle<S>,
         count: u64,
     ) -> Result<u64, Refusal> {
         let mut last = 0;
@@ -130,9 +124,9 @@ impl<N: Naming> Caller<N> {
     }
 
     /// Settles the oldest ticket or the last one, which is gone then.
-    fn settle<R: ServeRuntime>(
+    fn settle<S: Served<Naming = N>>(
         &mut self,
-        desk: &Called<N, R>,
+        desk: &Handle<S>,
         is_last: bool,
     ) -> Result<u64, Refusal> {
         let held = if is_last {
@@ -172,7 +166,7 @@ impl<N: Naming> Caller<N> {
     }
 
     /// Waits for a view with the command of the oldest ticket or of the last one.
-    fn see<R: ServeRuntime>(&self, desk: &Called<N, R>, is_last: bool) -> Result<u64, Refusal> {
+    fn see<S: Served<Naming = N>>(&self, desk: &Handle<S>, is_last: bool) -> Result<u64, Refusal> {
         let held = if is_last {
             self.tickets.back()
         } else {
@@ -186,7 +180,7 @@ impl<N: Naming> Caller<N> {
     }
 
     /// Its own reader, which is made where there is none yet.
-    fn reader<R: ServeRuntime>(&mut self, desk: &Called<N, R>) -> Result<Reader<N>, Refusal> {
+    fn reader<S: Served<Naming = N>>(&mut self, desk: &Handle<S>) -> Result<Reader<N>, Refusal> {
         match self.reader.take() {
             Some(reader) => Ok(reader),
             None => desk.reader(),
@@ -194,11 +188,11 @@ impl<N: Naming> Caller<N> {
     }
 
     /// Waits for a view with the command of the oldest ticket, of which its own reader learns, and looks.
-    fn learn<R: ServeRuntime>(
+    fn learn<S: Served<Naming = N>>(
         &mut self,
-        rt: &R,
+        rt: &S::Runtime,
         alloc: Global,
-        desk: &Called<N, R>,
+        desk: &Handle<S>,
         out: &mut Vec<u8>,
     ) -> Result<(), Refusal> {
         let mut reader = self.reader(desk)?;
@@ -211,11 +205,11 @@ impl<N: Naming> Caller<N> {
     }
 
     /// Looks by its own reader until this version is shown, 10,000 times at most.
-    fn watch<R: ServeRuntime>(
+    fn watch<S: Served<Naming = N>>(
         &mut self,
-        rt: &R,
+        rt: &S::Runtime,
         alloc: Global,
-        desk: &Called<N, R>,
+        desk: &Handle<S>,
         version: u64,
         out: &mut Vec<u8>,
     ) -> Result<(), Refusal> {
@@ -251,10 +245,7 @@ fn look<N: Naming, R: Threads>(
 }
 
 /// Offers a command, and settles the basis of its refusal. Told is for what it is refused, or why the basis isn't settled; or its number.
-fn decline<N: Naming, R: ServeRuntime>(
-    desk: &Called<N, R>,
-    command: Command,
-) -> Result<u64, Refusal> {
+fn decline<S: Served>(desk: &Handle<S>, command: Command) -> Result<u64, Refusal> {
     let Refused { refusal, basis } = match desk.offer(Group::one(command)) {
         Ok(ticket) => return Ok(ticket.ticket().number),
         Err(refused) => refused,
@@ -266,7 +257,7 @@ fn decline<N: Naming, R: ServeRuntime>(
 }
 
 /// The width of the buckets of the view at which a new reader looks.
-fn width<N: Naming, R: ServeRuntime>(desk: &Called<N, R>) -> Result<u64, Refusal> {
+fn width<S: Served>(desk: &Handle<S>) -> Result<u64, Refusal> {
     let mut reader = desk.reader()?;
     Ok(u64::from(reader.pin()?.width()))
 }
@@ -317,12 +308,12 @@ fn play_gate<R: Wait + Clock>(
 }
 
 /// Does what a line says.
-fn play_line<N: ServedNaming, R: ServeRuntime>(
-    rt: &R,
+fn play_line<S: ServedApart>(
+    rt: &S::Runtime,
     alloc: Global,
-    desk: &Desk<N, Kept, Watch<R>, R>,
+    desk: &Desk<S>,
     board: &Board,
-    caller: &mut Caller<N>,
+    caller: &mut Caller<S::Naming>,
     line: &str,
     out: &mut Vec<u8>,
 ) -> Result<(), Refusal> {
@@ -374,13 +365,13 @@ pub(crate) fn caller_of<N: Naming>(alloc: Global) -> Caller<N> {
 }
 
 /// Does what the lines of a case's last text say, one after the other.
-pub(crate) fn play_moves<N: ServedNaming, R: ServeRuntime>(
-    rt: &R,
+pub(crate) fn play_moves<S: ServedApart>(
+    rt: &S::Runtime,
     alloc: Global,
-    desk: &Desk<N, Kept, Watch<R>, R>,
+    desk: &Desk<S>,
     board: &Board,
     given: Given<'_, '_>,
-    caller: &mut Caller<N>,
+    caller: &mut Caller<S::Naming>,
     out: &mut Vec<u8>,
 ) -> Result<(), Refusal> {
     let last = given.texts.len().saturating_sub(1);

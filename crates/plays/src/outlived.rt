@@ -5,19 +5,14 @@ ghost use Rattle.rows.specs.Kept.{IsWidth};
 ghost use Rattle.store.specs.State.{CameTidy, is_calm};
 ghost use Rattle.desk.specs.Openings.{IsNewDesk};
 
-use crate::boards::Watch;
-use crate::moves::{Called, SHORTER};
-use crate::setups::{Kept, gate_of, setup_of, store_of};
 use blocks::Given;
-use desk::{Desk, History, Naming, Place, Reader, ServeRuntime, Setup, Ticket};
+use desk::{Desk, Handle, History, Naming, Place, Reader, Served, Setup, Ticket};
 use disk::Disk;
 use roadnet::Refusal;
+use stages::{CaseRuntime, Kept, OfCase, SHORTER, Watch, gate_of, setup_of, store_of};
 use std::alloc::Global;
 use std::io::Write;
 use std::marker::Brand;
-use std::sync::Wait;
-use std::thread::Threads;
-use std::time::Clock;
 use store::Store;
 
 /// Adds for what a call was refused.
@@ -30,14 +25,14 @@ fn put<T: Drop>(call: &str, answer: Result<T, Refusal>, out: &mut Vec<u8>) -> Re
 }
 
 /// Adds for what each call of these is refused.
-fn put_each<N: Naming, R: ServeRuntime>(
-    desk: &Called<N, R>,
+fn put_each<S: Served>(
+    desk: &Handle<S>,
     ticket: Ticket,
-    place: &mut Place<N>,
-    reader: &mut Reader<N>,
+    place: &mut Place<S::Naming>,
+    reader: &mut Reader<S::Naming>,
     out: &mut Vec<u8>,
 ) -> Result<(), Refusal>
-    requires { ticket.origin ≡ N.origin }
+    requires { ticket.origin ≡ S.Naming.origin }
 {
     desk.halt();
     put("submit", desk.submit(SHORTER), out)?;
@@ -55,7 +50,7 @@ fn put_each<N: Naming, R: ServeRuntime>(
 }
 
 /// A desk is closed, or let go, while a ticket of it is pending.
-fn outlive<N: Naming + Send + Sync + 'static, R: ServeRuntime>(
+fn outlive<N: Naming + Send + Sync + 'static, R: CaseRuntime>(
     rt: R,
     alloc: Global,
     history: History,
@@ -71,7 +66,7 @@ fn outlive<N: Naming + Send + Sync + 'static, R: ServeRuntime>(
     requires new { IsNewDesk N.origin history store }
     requires came_tidy { N.came_tidy → CameTidy ⟦<Kept as Disk>⟧.honest ⟦<Kept as Disk>⟧.content store.given }
 {
-    let desk: Desk<N, Kept, Watch<R>, R> = Desk::start(rt, alloc, history, store, gate, setup)?;
+    let desk: Desk<OfCase<N, R>> = Desk::start(rt, alloc, history, store, gate, setup)?;
     let handle = desk.handle().again()?;
     let mut place = handle.place()?;
     let mut reader = handle.reader()?;
@@ -85,7 +80,7 @@ fn outlive<N: Naming + Send + Sync + 'static, R: ServeRuntime>(
 }
 
 /// Plays a case.
-pub(crate) fn play<R: ServeRuntime>(
+pub(crate) fn play<R: CaseRuntime>(
     rt: R,
     alloc: Global,
     given: Given<'_, '_>,

@@ -1,3 +1,4 @@
 pub mod Copied
+pub mod Deeds
+pub mod Doors
 pub mod Failures
-pub mod Kinds

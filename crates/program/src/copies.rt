@@ -1,12 +1,12 @@
 //! Copies of the served network, as stores in files of a folder.
 ghost use Rattle.std.specs.Prelude.{◌≡◌, ◌↔◌, IfOk, IfErr, OnOk, option_map, string_bytes};
 ghost use Rattle.sessions.specs.Copying.{IsUnmade};
-ghost use Rattle.program.specs.Copied.{IsCopyOf, copies_in};
-ghost use Rattle.program.specs.Failures.{IsUnopened};
+ghost use Rattle.program.specs.Copied.{IsCopyOf, copies_in, refusal_of};
+ghost use Rattle.file_jobs.specs.Failures.{IsUnopened};
 ghost use Rattle.words.specs.Words.{IsJournal};
 
-use crate::exports::open_folder;
 use disk::Disk;
+use file_jobs::open_folder;
 use filedisk::{NewFile, OpenError, create_file_here};
 use pages::MOST_VERSIONS;
 use printing::Failed;
@@ -46,10 +46,11 @@ pub fn copy_store<D: Disk>(
 
 /// Why there is no file for a copy: it cannot be opened or made (10), its name cannot be made durable (43), or memory ran out (11).
 fn refusal_of(error: OpenError) -> Refusal
-    ensures { IsUnmade result }
+    ensures cause { result ≡ refusal_of error }
+    ensures unmade { IsUnmade result }
 {
     match error {
-        OpenError::NameNotSynced => Refusal::Device,
+        OpenError::NameNotSynced(_) => Refusal::Device,
         OpenError::OutOfMemory => Refusal::OutOfMemory,
         _ => Refusal::Read,
     }
@@ -127,9 +128,9 @@ impl<T: AllocGlobal + Files<File = File>> Copies for FileCopies<T> {
     }
 }
 
-/// The folder of copies, if one is named: it must exist. If it does not, it is reported as text number 1 that cannot be opened (10 of line 0), with the
-/// reason.
-pub fn see_folder<R: AllocGlobal + Clock + Eprint + Files<File = File>>(
+/// The folder of copies, if one is named: it must exist. If it does not, it is reported as text number 1 that cannot be opened (10 of line 0), and the
+/// reason is kept.
+pub fn see_folder<R: AllocGlobal + Files<File = File>>(
     rt: &R,
     progress: &Progress<'_, R>,
     folder: Option<&str>,

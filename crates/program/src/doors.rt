@@ -1,32 +1,29 @@
 //! The doors of a server: pairs of named pipes, through each of which clients come one after the other.
-ghost use Rattle.std.specs.Prelude.{◌≡◌, ◌≤◌, ℕ, Bool, List, length, vec_len, true, false, Ok, IfOk, IfErr, OnOk, ⊤};
+ghost use Rattle.std.specs.Prelude.{◌≡◌, ◌≤◌, ℕ, Bool, false, List, ◌⊎◌, length, map, IsNone, IsSome, IfOk, IfErr, OnOk, ⊤};
+ghost use Rattle.std.specs.Bool.{Decides};
+ghost use Rattle.std.specs.Io.Buffered.{writer_inner};
+ghost use Rattle.program.specs.Doors.{HasGivenUp, HasOpened, IsErrOf, begins_at, came_in, done_at, is_waited_for, left_out, let_out, stands_at, told_of_end};
 ghost use Rattle.program.specs.Failures.{IsOfNoPipe};
 ghost use Rattle.words.specs.Pipes.{names_of, AreTold};
 
-use crate::files::{FIRST_PIPE, unopened};
+use crate::deeds::Side;
+use crate::pipes::{Pipes, Unserved, Why};
 use crate::standings::Guests;
-use filedisk::{OpenError, why_unopened};
+use file_jobs::{FIRST_PIPE, unopened};
 use printing::Failed;
-use progress::ToldName;
 use roadnet::Refusal;
 use sessions::Door;
 use std::alloc::{AllocError, Global};
-use std::fmt::Display;
-use std::fs::{self, File, OpenOptions};
+use std::fs::{self, File};
 use std::io::{self, BufReader, BufWriter, ErrorKind, Write};
 use std::os::unix::fs::FileTypeExt;
 use std::rt::Files;
 use std::sync::{Arc, Mutex, Wait};
-use std::thread;
-use std::time::{Clock, Duration};
-use thiserror::Error;
+use std::time::Clock;
 use words::{PipePair, pipe_at};
 
 /// How many bytes of a client are read or written at once: it reads the first of its answers while the rest is made.
 const BUFFER: usize = 1 << 12;
-
-/// For how many milliseconds a door rests that finds no memory for a client.
-const REST: u64 = 100;
 
 /// Doors, and whether clients may come in through them: not before each has its thread.
 #[derive(Drop)]
@@ -44,13 +41,21 @@ pub struct AnswerPipe {
     has_reader: bool,
 }
 
+/// Whether a write failed because the client has closed its end.
+fn has_left<T>(answer: &io::Result<T>) -> bool
+    ensures { Decides result (IsErrOf ErrorKind.BrokenPipe answer.now) }
+{
+    match answer {
+        Err(error) => error.kind() == ErrorKind::BrokenPipe,
+        Ok(_) => false,
+    }
+}
+
 impl Write for AnswerPipe {
     fn write(&mut self, buf: &[u8]) -> io::Result<usize> {
         let answer = self.file.write(buf);
-        if let Err(error) = &answer {
-            if error.kind() == ErrorKind::BrokenPipe {
-                self.has_reader = false;
-            }
+        if has_left(&answer) {
+            self.has_reader = false;
         }
         answer
     }
@@ -60,19 +65,11 @@ impl Write for AnswerPipe {
     }
 }
 
-/// Reports on standard error why a session on a pipe ended, or why no more clients come through it: `roadmark: NAME: CODE Name`, or a reason in its place.
-fn tell<R: Eprint, D: Display>(rt: &R, name: &str, what: &D) {
-    let name = ToldName { name };
-    let _ = eprintln!(rt; "roadmark: {name}: {what}");
-}
-
-/// A pair of named pipes: the client writes its lines into the one and reads its answers from the other.
+/// A pair of named pipes, through which clients come in.
 #[derive(Drop)]
 pub struct PipeDoor<T> {
-    rt: T,
+    pipes: Pipes<T>,
     alloc: Global,
-    input: String,
-    output: String,
     asks_alone: bool,
     are_open: Arc<Mutex<bool>>,
     guests: Guests,
@@ -80,88 +77,6 @@ pub struct PipeDoor<T> {
 
 /// A client that has come.
 type Client = (BufReader<File>, BufWriter<AnswerPipe>);
-
-/// A pipe of a pair.
-#[derive(Clone, Copy)]
-enum Side {
-    Input,
-    Output,
-}
-
-/// Why a pipe is not served.
-#[derive(Clone, Copy, Debug, PartialEq, Eq, Error)]
-enum Why {
-    /// The system no longer opens it.
-    #[error("{0}")]
-    Unopened(OpenError),
-    /// What was opened is not a pipe.
-    #[error("it is no named pipe")]
-    NoPipe,
-    /// There is no memory for a client.
-    #[error("out of memory")]
-    NoMemory,
-}
-
-/// Why a client could not come in, and because of which pipe.
-#[derive(Clone, Copy)]
-struct Unserved {
-    side: Side,
-    why: Why,
-}
-
-/// Why a pipe is not served, given the system's error when opening it.
-fn why_unserved(error: &io::Error) -> Why
-    ensures { result ≡ Why.NoPipe → ⊥ }
-{
-    match error.kind() {
-        ErrorKind::OutOfMemory => Why::NoMemory,
-        _ => Why::Unopened(why_unopened(error)),
-    }
-}
-
-/// An open file that says whether it is a named pipe.
-pub trait TellsPipe {
-    /// What it may say.
-    ghost tells: { Self → Bool → Type 0 };
-
-    fn is_pipe(&self) -> bool
-        ensures { Self.tells self.now result };
-}
-
-/// A file of the system, which may say anything.
-impl TellsPipe for File {
-    ghost tells = { λ file is. ⊤ };
-
-    fn is_pipe(&self) -> bool {
-        match self.metadata() {
-            Ok(metadata) => metadata.file_type().is_fifo(),
-            Err(_) => false,
-        }
-    }
-}
-
-/// What was opened as a pipe of a pair, if it says itself that it is a named pipe: by now its name may belong to anything.
-fn pipe_of<F: TellsPipe + Drop>(side: Side, opened: io::Result<F>) -> Result<F, Unserved>
-    ensures pipe { IfOk result (λ pipe. (opened ≡ Ok pipe) × F.tells pipe true) }
-    ensures none { IfErr result (λ unserved. unserved.why ≡ Why.NoPipe → (file : _) × (opened ≡ Ok file) × F.tells file false) }
-{
-    let file = match opened {
-        Ok(file) => file,
-        Err(error) => {
-            return Err(Unserved {
-                side,
-                why: why_unserved(&error),
-            });
-        }
-    };
-    if !file.is_pipe() {
-        return Err(Unserved {
-            side,
-            why: Why::NoPipe,
-        });
-    }
-    Ok(file)
-}
 
 /// A client with two open pipes, if there is memory for it.
 fn client_of(alloc: Global, input: File, output: File) -> io::Result<Client> {
@@ -175,12 +90,12 @@ fn client_of(alloc: Global, input: File, output: File) -> io::Result<Client> {
 }
 
 impl<T: Files<File = File>> PipeDoor<T> {
-    /// Opens the pipe for writing, while the one for reading is open. It waits until a client has opened the pipe. This makes and writes nothing.
-    fn open_beside(&self, input: File) -> Result<Client, Unserved> {
-        let opened = OpenOptions::new()
-            .write(true)
-            .open(&self.rt, self.output.as_str());
-        let output = pipe_of(Side::Output, opened)?;
+    /// Opens the pipe for reading, and then the one for writing. It waits until a client has opened both.
+    fn open(&mut self) -> Result<Client, Unserved>
+        ensures came { OnOk result (done_at self.new ≡ came_in (done_at self.old)) }
+    {
+        let input = self.pipes.open(Side::Input)?;
+        let output = self.pipes.open(Side::Output)?;
         match client_of(self.alloc, input, output) {
             Ok(client) => Ok(client),
             Err(_) => Err(Unserved {
@@ -189,54 +104,69 @@ impl<T: Files<File = File>> PipeDoor<T> {
             }),
         }
     }
-
-    /// Opens the pipe for reading, and then the one for writing. It waits until a client has opened both.
-    fn open(&self) -> Result<Client, Unserved> {
-        let opened = fs::open(&self.rt, self.input.as_str());
-        let input = pipe_of(Side::Input, opened)?;
-        self.open_beside(input)
-    }
 }
 
 impl<T: Eprint + Clock + Wait> PipeDoor<T> {
     /// Whether clients may come in.
     fn is_open(&self) -> bool {
-        *self.are_open.lock(&self.rt)
+        *self.are_open.lock(self.pipes.rt())
     }
 
     /// Reports why no client could come in, and returns whether the next one may: after a rest, if there was no memory.
-    fn goes_on(&self, unserved: Unserved) -> bool {
-        let name = match unserved.side {
-            Side::Input => self.input.as_str(),
-            Side::Output => self.output.as_str(),
-        };
-        if let Why::NoMemory = unserved.why {
-            tell(&self.rt, name, &Refusal::OutOfMemory);
-            thread::sleep(&self.rt, Duration::from_millis(REST));
+    fn goes_on(&mut self, unserved: Unserved) -> bool
+        ensures waits { result ≡ is_waited_for unserved.why }
+        ensures deeds { done_at self.new ≡ left_out unserved.side unserved.why (done_at self.old) }
+        ensures gives_up { result ≡ false → HasGivenUp (done_at self.new) }
+    {
+        let Unserved { side, why } = unserved;
+        if let Why::NoMemory = why {
+            self.pipes.tell(side, &Refusal::OutOfMemory);
+            self.pipes.rest();
             return true;
         }
-        tell(&self.rt, name, &Refusal::Read);
-        tell(&self.rt, name, &unserved.why);
+        self.pipes.tell(side, &Refusal::Read);
+        self.pipes.tell(side, &why);
         false
+    }
+
+    /// Reports a failed read or write, unless the client left before its last answer.
+    fn tell_end(&mut self, outcome: Result<(), Failed>, has_reader: bool)
+        ensures { done_at self.new ≡ told_of_end outcome has_reader (done_at self.old) }
+    {
+        match outcome {
+            Err(Failed::Code(Refusal::Write)) if has_reader => {
+                self.pipes.tell(Side::Output, &Refusal::Write);
+            }
+            Err(Failed::Code(Refusal::Read)) => self.pipes.tell(Side::Input, &Refusal::Read),
+            Ok(()) | Err(_) => {}
+        }
     }
 }
 
-impl<T: Files<File = File> + Eprint + Clock + Wait> Door<BufReader<File>, BufWriter<AnswerPipe>>
-    for PipeDoor<T> {
-    fn asks_alone(&self) -> bool {
+impl<T: Files<File = File> + Eprint + Clock + Wait + Copy> Door<
+    BufReader<File>,
+    BufWriter<AnswerPipe>,
+> for PipeDoor<T> {
+    fn asks_alone(&self) -> bool
+        ensures { result ≡ self.now.asks_alone }
+    {
         self.asks_alone
     }
 
     /// The next client. If a pipe can no longer be opened, or is not a pipe, this is reported, and no more clients come. If there is no memory, the client
     /// finds its pipes closed.
-    fn next(&mut self) -> Option<Client> {
+    fn next(&mut self) -> Option<Client>
+        ensures came { IsSome result → HasOpened (done_at self.new) }
+        ensures none { IsNone result → (done_at self.new ≡ done_at self.old) ⊎ HasGivenUp (done_at self.new) }
+    {
         if !self.is_open() {
             return None;
         }
-        for _ in 0..u64::MAX {
+        let rt = *self.pipes.rt();
+        for _ in rt.forever() {
             match self.open() {
                 Ok(client) => {
-                    self.guests.one_came(&self.rt);
+                    self.guests.one_came(&rt);
                     return Some(client);
                 }
                 Err(unserved) => {
@@ -246,30 +176,23 @@ impl<T: Files<File = File> + Eprint + Clock + Wait> Door<BufReader<File>, BufWri
                 }
             }
         }
-        None
+        unreachable!()
     }
 
-    /// Closes both pipes, first the one for reading: so whoever sees the other one closed finds no line of this client in it. A failed read or write is
-    /// reported, unless the client left before its last answer.
+    /// Closes both pipes, first the one for reading: so whoever sees the other one closed finds no line of this client in it.
     fn ended(
         &mut self,
         reader: BufReader<File>,
         writer: BufWriter<AnswerPipe>,
         outcome: Result<(), Failed>,
-    ) {
+    )
+        ensures deeds { done_at self.new ≡ told_of_end outcome (writer_inner writer).has_reader (let_out (done_at self.old)) }
+    {
         let has_reader = writer.get_ref().has_reader;
-        drop(reader);
-        drop(writer);
-        self.guests.one_went(&self.rt);
-        match outcome {
-            Err(Failed::Code(Refusal::Write)) if has_reader => {
-                tell(&self.rt, self.output.as_str(), &Refusal::Write);
-            }
-            Err(Failed::Code(Refusal::Read)) => {
-                tell(&self.rt, self.input.as_str(), &Refusal::Read);
-            }
-            Ok(()) | Err(_) => {}
-        }
+        self.pipes.close(Side::Input, reader);
+        self.pipes.close(Side::Output, writer);
+        self.guests.one_went(self.pipes.rt());
+        self.tell_end(outcome, has_reader);
     }
 }
 
@@ -326,13 +249,6 @@ pub fn see_pipes<'a, 'w, P: TellsPipes>(
     Ok(SeenPipes { pairs: pipes })
 }
 
-/// The names of a pair's pipes: the one for reading, and the one for writing.
-fn names_in(alloc: Global, pair: &PipePair<'_>) -> Result<(String, String), AllocError> {
-    let input = String::from_str(alloc, pair.input)?;
-    let output = String::from_str(alloc, pair.output)?;
-    Ok((input, output))
-}
-
 /// The door of a pair.
 fn door_of<T: Copy + Drop>(
     rt: T,
@@ -340,15 +256,14 @@ fn door_of<T: Copy + Drop>(
     pair: &PipePair<'_>,
     are_open: &Arc<Mutex<bool>>,
     guests: &Guests,
-) -> Result<PipeDoor<T>, AllocError> {
+) -> Result<PipeDoor<T>, AllocError>
+    ensures { IfOk result (λ door. stands_at door ≡ begins_at pair.now) }
+{
     let are_open = Arc::try_clone(are_open)?;
     let guests = guests.again()?;
-    let (input, output) = names_in(alloc, pair)?;
     Ok(PipeDoor {
-        rt,
+        pipes: Pipes::new(rt, alloc, pair)?,
         alloc,
-        input,
-        output,
         asks_alone: pair.asks_alone,
         are_open,
         guests,
@@ -363,7 +278,7 @@ fn all_doors<T: Copy + Drop>(
     are_open: &Arc<Mutex<bool>>,
     guests: &Guests,
 ) -> Result<Vec<PipeDoor<T>>, AllocError>
-    ensures { IfOk result (λ doors. vec_len doors ≡ length pairs.now) }
+    ensures { IfOk result (λ doors. map stands_at doors.items ≡ map begins_at pairs.now) }
 {
     let mut doors = Vec::new(alloc);
     for pair in pairs {
@@ -380,7 +295,7 @@ pub fn doors_of<T: Copy + Drop>(
     pipes: SeenPipes<'_, '_>,
     are_told: bool,
 ) -> Result<Doors<PipeDoor<T>>, AllocError>
-    ensures { IfOk result (λ doors. vec_len doors.doors ≡ length pipes.entry.pairs.now) }
+    ensures doors { IfOk result (λ doors. map stands_at doors.doors.items ≡ map begins_at pipes.entry.pairs.now) }
 {
     let are_open = Arc::new(alloc, Mutex::new(false))?;
     let guests = Guests::new(alloc, are_told)?;

@@ -26,12 +26,12 @@ ghost use Rattle.words.specs.Words.{IsWorkers};
 use crate::bounds::ServerRuntime;
 use crate::copies::{FileCopies, see_folder};
 use crate::doors::{Doors, FileNames, PipeDoor, SeenPipes, doors_of, see_pipes};
-use crate::files::{FIRST_PIPE, open_served_store, standard_input, standard_output};
 use crate::server_life::{is_spent, start_watching};
 use crate::standings::start_telling;
-use desk::{Closed, Desk, Gate, Handle, History, Naming, Setup};
+use desk::{Closed, Desk, Gate, Handle, History, Naming, Over, Served, ServedApart, Setup};
 use dimacs::Counted;
 use disk::Disk;
+use file_jobs::{FIRST_PIPE, open_served_store, standard_input, standard_output};
 use filedisk::FileLock;
 use printing::{CountedWriter, Done, Failed};
 use progress::Progress;
@@ -42,8 +42,7 @@ use std::fs::File;
 use std::io::{BufRead, Write};
 use std::marker::Brand;
 use std::rt::Files;
-use std::sync::{Arc, Wait};
-use std::thread::Threads;
+use std::sync::Arc;
 use std::time::{Clock, Duration};
 use store::{Store, open};
 use words::{PipePair, pipe_at};
@@ -93,20 +92,17 @@ const LAST_ANSWERS: u64 = 1000;
 
 /// Starts a thread for a door. It fails with 11 for lack of memory, and with 63 if the system gives no thread.
 fn start_door<
-    N: Naming + Send + Sync + 'static,
-    D: Disk + Drop + Send + 'static,
-    G: Gate + Drop + Send + Sync + 'static,
-    T: Threads + Wait + Clock + Eprint + Copy + Send + Sync + 'static,
+    S: ServedApart,
     A: BufRead + Send + 'static,
     B: Write + Send + 'static,
     P: Door<A, B> + Drop + Send + 'static,
     C: Copies + Drop + Send + Sync + 'static,
 >(
-    threads: T,
+    threads: S::Runtime,
     alloc: Global,
-    desk: &Handle<N, D, G, T>,
+    desk: &Handle<S>,
     door: P,
-    visits: &Arc<Visits<N, C>>,
+    visits: &Arc<Visits<S::Naming, C>>,
 ) -> Result<Started, Refusal>
     ensures causes { IfErr result IsUnstarted }
 {
@@ -121,20 +117,17 @@ fn start_door<
 
 /// Starts a thread for each door. It fails with 11 for lack of memory, and with 63 if the system gives no thread.
 fn start_each<
-    N: Naming + Send + Sync + 'static,
-    D: Disk + Drop + Send + 'static,
-    G: Gate + Drop + Send + Sync + 'static,
-    T: Threads + Wait + Clock + Eprint + Copy + Send + Sync + 'static,
+    S: ServedApart,
     A: BufRead + Send + 'static,
     B: Write + Send + 'static,
     P: Door<A, B> + Drop + Send + 'static,
     C: Copies + Drop + Send + Sync + 'static,
 >(
-    threads: T,
+    threads: S::Runtime,
     alloc: Global,
-    desk: &Handle<N, D, G, T>,
+    desk: &Handle<S>,
     doors: Vec<P>,
-    visits: &Arc<Visits<N, C>>,
+    visits: &Arc<Visits<S::Naming, C>>,
 ) -> Result<(), Refusal>
     ensures causes { IfErr result IsUnstarted }
 {
@@ -148,23 +141,21 @@ fn start_each<
 /// once all have their threads. If the clients are counted, one more thread reports from then on on the server. It fails with 11 for lack of memory, and
 /// with 63 if the system gives no thread; then the doors stay closed.
 fn start_doors<
-    N: Naming + Send + Sync + 'static,
-    D: Disk + Drop + Send + 'static,
-    G: Gate + Drop + Send + Sync + 'static,
-    T: Threads + Wait + Clock + Eprint + Files<File = File> + Copy + Send + Sync + 'static,
+    S: ServedApart,
     A: BufRead + Send + 'static,
     B: Write + Send + 'static,
     P: Door<A, B> + Drop + Send + 'static,
     C: Copies + Drop + Send + Sync + 'static,
 >(
-    threads: T,
+    threads: S::Runtime,
     alloc: Global,
-    desk: &Handle<N, D, G, T>,
+    desk: &Handle<S>,
     doors: Doors<P>,
     copies: C,
-) -> Result<Arc<Visits<N, C>>, Refusal>
+) -> Result<Arc<Visits<S::Naming, C>>, Refusal>
 where
-    T::Dir: Send + 'static,
+    S::Runtime: Eprint + Files<File = File>,
+    <S::Runtime as Files>::Dir: Send + 'static,
     ensures copies { IfOk result (λ visits. (arc_value visits).copies ≡ copies) }
     ensures causes { IfErr result IsUnstarted }
 {
@@ -188,20 +179,15 @@ where
 /// built after that. Then sessions at doors that are within an answer have a second to send it.
 ///
 /// A desk that cannot be closed (61) never occurs.
-fn close_desk<
-    N: Naming + Send + Sync + 'static,
-    D: Disk + Drop + Send + 'static,
-    G: Gate + Drop + Send + Sync + 'static,
-    T: Threads + Wait + Clock + Copy + Send + Sync + 'static,
->(
-    threads: T,
-    desk: Desk<N, D, G, T>,
+fn close_desk<S: Served>(
+    threads: S::Runtime,
+    desk: Desk<S>,
     lock: Option<FileLock>,
     answering: &Answering,
-) -> Result<Closed<D>, Refusal>
-    ensures origin { IfOk result (λ closed. closed.whole.origin ≡ N.origin) }
-    ensures honest { N.came_tidy → IfOk result (λ closed. D.honest closed.disk) }
-    ensures left { N.came_tidy → IfOk result (λ closed. AreAmong (D.left closed.disk) (KeepsDesk closed.whole closed.shown closed.journal_pages)) }
+) -> Result<Closed<S::Disk>, Refusal>
+    ensures origin { IfOk result (λ closed. closed.whole.origin ≡ S.Naming.origin) }
+    ensures honest { S.Naming.came_tidy → IfOk result (λ closed. S.Disk.honest closed.disk) }
+    ensures left { S.Naming.came_tidy → IfOk result (λ closed. AreAmong (S.Disk.left closed.disk) (KeepsDesk closed.whole closed.shown closed.journal_pages)) }
     ensures causes { IfErr result (λ refusal. refusal ≡ closed) }
 {
     desk.end_writing();
@@ -223,7 +209,7 @@ fn serve_store<
     N: Naming + Send + Sync + 'static,
     D: Disk + Drop + Send + 'static,
     G: Gate + Drop + Send + Sync + 'static,
-    T: Threads + Wait + Clock + Eprint + Files<File = File> + Copy + Send + Sync + 'static,
+    T: ServerRuntime,
     A: BufRead + Send + 'static,
     B: Write + Send + 'static,
     P: Door<A, B> + Drop + Send + 'static,
@@ -265,7 +251,7 @@ where
     ensures left { CameTidy D.honest D.content store.given → IfOk result (λ ended. AreAmong (D.left ended.closed.disk) (KeepsDesk ended.closed.whole ended.closed.shown ended.closed.journal_pages)) }
     ensures causes { IfErr result (λ refusal. IsUnstarted refusal ⊎ (refusal ≡ closed)) }
 {
-    let desk: Desk<N, D, G, T> = Desk::start(threads, alloc, history, store, gate, setup)?;
+    let desk: Desk<Over<N, D, G, T>> = Desk::start(threads, alloc, history, store, gate, setup)?;
     let visits = start_doors(threads, alloc, desk.handle(), doors, copies)?;
     let terms = Terms {
         last_line: LastLine::Taken,
@@ -341,13 +327,13 @@ where
     )
 }
 
-/// Reports the name that is not that of a named pipe, if a failure is about one.
-fn tell_pipe<R: Eprint>(progress: &Progress<'_, R>, pipes: &[PipePair<'_>], failed: &Failed) {
+/// Keeps the name that is not that of a named pipe, if a failure is about one.
+fn keep_pipe<R: AllocGlobal>(progress: &Progress<'_, R>, pipes: &[PipePair<'_>], failed: &Failed) {
     if let Failed::Text { which, fault: _ } = failed
         && *which >= FIRST_PIPE
         && let Some(name) = pipe_at(pipes, usize::from(*which - FIRST_PIPE))
     {
-        progress.tell(name, &"it is no named pipe");
+        progress.keep(name, &"it is no named pipe");
     }
 }
 
@@ -421,8 +407,8 @@ where
     }
 }
 
-/// The pairs of pipes, if each name is that of a named pipe. One that is not is reported.
-fn seen_pipes<'a, 'w, R: Eprint + Files>(
+/// The pairs of pipes, if each name is that of a named pipe. One that is not is kept as the reason.
+fn seen_pipes<'a, 'w, R: AllocGlobal + Files>(
     rt: &R,
     progress: &Progress<'_, R>,
     pipes: &'a [PipePair<'w>],
@@ -432,7 +418,7 @@ fn seen_pipes<'a, 'w, R: Eprint + Files>(
     match see_pipes(&FileNames { rt }, pipes) {
         Ok(seen) => Ok(seen),
         Err(failed) => {
-            tell_pipe(progress, pipes, &failed);
+            keep_pipe(progress, pipes, &failed);
             Err(failed)
         }
     }
@@ -443,7 +429,7 @@ type DoorsAndFolder<T> = (Doors<PipeDoor<T>>, Option<String>);
 
 /// The doors at these pipes, still closed, and the folder of copies, if one is named. A name that is not that of a pipe is reported (10 of line 0), and
 /// then a folder that does not exist.
-fn doors_and_folder<R: AllocGlobal + Clock + Eprint + Files<File = File>, T: Copy + Drop>(
+fn doors_and_folder<R: AllocGlobal + Files<File = File>, T: Copy + Drop>(
     rt: &R,
     threads: T,
     progress: &Progress<'_, R>,

@@ -4,7 +4,7 @@ ghost use Rattle.roadnet.specs.Groups.{count_of, most_of_group};
 ghost use Rattle.machine.specs.Machine.{most_of_life};
 ghost use Rattle.desk.specs.Openings.{IsUnstarted};
 
-use desk::{Closed, Gate, Handle, Naming};
+use desk::{Closed, Handle, Served};
 use disk::Disk;
 use machine::MOST_OF_LIFE;
 use roadnet::{Group, MOST_OF_GROUP, Refusal};
@@ -13,9 +13,8 @@ use std::fs::{self, File, OpenOptions};
 use std::io::{self, Write};
 use std::os::unix::fs::FileTypeExt;
 use std::rt::Files;
-use std::sync::Wait;
-use std::thread::{self, Threads};
-use std::time::{Clock, Duration};
+use std::thread;
+use std::time::Duration;
 
 /// The standard input of the process, as a name by which it may be opened once more.
 const INPUT: &str = "/proc/self/fd/0";
@@ -33,12 +32,10 @@ fn quit_input<R: Files<File = File>>(rt: &R) -> io::Result<()> {
 }
 
 /// Checks each second whether a desk can accept another group, until it is closed, and sends the server `quit` once it cannot.
-fn watch_life<
-    N: Naming,
-    D: Disk + Drop,
-    G: Gate + Drop,
-    R: Wait + Clock + Files<File = File> + Copy,
->(rt: &R, desk: &Handle<N, D, G, R>) {
+fn watch_life<S: Served>(rt: &S::Runtime, desk: &Handle<S>)
+where
+    S::Runtime: Files<File = File>,
+{
     for _ in rt.forever() {
         let Ok(state) = desk.state() else {
             return;
@@ -53,14 +50,16 @@ fn watch_life<
 
 /// Starts a thread that ends a server once its desk can accept no other group, and does not join it: it ends once the desk is closed, or is cut off when
 /// the program ends. It fails with 11 for lack of memory, and with 63 if the system gives no thread.
-pub fn start_watching<
-    N: Naming + Send + Sync + 'static,
-    D: Disk + Drop + Send + 'static,
-    G: Gate + Drop + Send + Sync + 'static,
-    R: Threads + Wait + Clock + Files<File = File> + Copy + Send + Sync + 'static,
->(rt: R, desk: &Handle<N, D, G, R>) -> Result<Started, Refusal>
+pub fn start_watching<S: Served + Send + 'static>(
+    rt: S::Runtime,
+    desk: &Handle<S>,
+) -> Result<Started, Refusal>
 where
-    R::Dir: Send + 'static,
+    S::Naming: Send + Sync + 'static,
+    S::Disk: Send + 'static,
+    S::Gate: Send + Sync + 'static,
+    S::Runtime: Files<File = File> + Send + Sync + 'static,
+    <S::Runtime as Files>::Dir: Send + 'static,
     ensures causes { IfErr result IsUnstarted }
 {
     let Ok(desk) = desk.again() else {
@@ -70,7 +69,7 @@ where
         &rt,
         desk,
         (),
-        move |desk: Handle<N, D, G, R>, _nothing: ()| watch_life(&rt, &desk),
+        move |desk: Handle<S>, _nothing: ()| watch_life(&rt, &desk),
     )
 }
 

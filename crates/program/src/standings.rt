@@ -1,12 +1,13 @@
 //! Reports on a server on standard error, if `--verbose` asks for them.
-use desk::{DeskState, Gate, Handle, Naming, Working};
-use disk::Disk;
+ghost use Rattle.std.specs.Prelude.{◌≡◌, ◌<◌, ◌+◌};
+
+use desk::{DeskState, Handle, Served, Working};
 use sessions::let_go;
 use std::alloc::{AllocError, Global};
 use std::fmt::{self, Display};
 use std::sync::{Arc, Mutex, Wait};
-use std::thread::{self, Threads};
-use std::time::{Clock, Duration};
+use std::thread;
+use std::time::Duration;
 
 /// The least number of seconds between two lines.
 const APART: u64 = 1;
@@ -20,12 +21,18 @@ pub struct Visits {
 
 impl Visits {
     /// One more has come.
-    fn one_came(&mut self) {
+    fn one_came(&mut self)
+        ensures came { self.old.came < 18446744073709551615 → self.new.came ≡ self.old.came + 1 }
+        ensures went { self.new.went ≡ self.old.went }
+    {
         self.came = self.came.saturating_add(1);
     }
 
     /// One of them has left.
-    fn one_went(&mut self) {
+    fn one_went(&mut self)
+        ensures went { self.old.went < 18446744073709551615 → self.new.went ≡ self.old.went + 1 }
+        ensures came { self.new.came ≡ self.old.came }
+    {
         self.went = self.went.saturating_add(1);
     }
 }
@@ -121,11 +128,10 @@ impl Display for Standing {
 }
 
 /// Reports on a server, at once and then each second in which its state has changed, until its desk is closed.
-fn tell_standings<N: Naming, D: Disk + Drop, G: Gate + Drop, R: Wait + Clock + Eprint + Copy>(
-    rt: &R,
-    desk: &Handle<N, D, G, R>,
-    visits: &Mutex<Visits>,
-) {
+fn tell_standings<S: Served>(rt: &S::Runtime, desk: &Handle<S>, visits: &Mutex<Visits>)
+where
+    S::Runtime: Eprint,
+{
     let mut told = None;
     for _ in rt.forever() {
         let Ok(state) = desk.state() else {
@@ -146,12 +152,13 @@ fn tell_standings<N: Naming, D: Disk + Drop, G: Gate + Drop, R: Wait + Clock + E
 
 /// Starts a thread that reports on a server, if its clients are counted, and does not join it: it ends once the desk is closed, or is cut off when the
 /// program ends. If there is no memory or no thread for it, nothing is reported.
-pub fn start_telling<
-    N: Naming + Send + Sync + 'static,
-    D: Disk + Drop + Send + 'static,
-    G: Gate + Drop + Send + Sync + 'static,
-    R: Threads + Wait + Clock + Eprint + Copy + Send + Sync + 'static,
->(rt: R, desk: &Handle<N, D, G, R>, guests: Guests) {
+pub fn start_telling<S: Served + Send + 'static>(rt: S::Runtime, desk: &Handle<S>, guests: Guests)
+where
+    S::Naming: Send + Sync + 'static,
+    S::Disk: Send + 'static,
+    S::Gate: Send + Sync + 'static,
+    S::Runtime: Eprint + Send + Sync + 'static,
+{
     let Some(visits) = guests.counted else {
         return;
     };
@@ -162,8 +169,6 @@ pub fn start_telling<
         &rt,
         desk,
         visits,
-        move |desk: Handle<N, D, G, R>, visits: Arc<Mutex<Visits>>| tell_standings(
-            &rt, &desk, &visits,
-        ),
+        move |desk: Handle<S>, visits: Arc<Mutex<Visits>>| tell_standings(&rt, &desk, &visits),
     );
 }

@@ -4,6 +4,7 @@ ghost use Rattle.progress.specs.Inside.{disk_inside};
 
 use crate::notes::Progress;
 use disk::{Disk, DiskError};
+use filedisk::{Failure, FileDisk, SystemFile};
 use std::fmt::{self, Display};
 use std::time::Clock;
 
@@ -35,6 +36,17 @@ struct PagesWritten {
 impl Display for PagesWritten {
     fn fmt<W: fmt::Write>(&self, f: &mut fmt::Formatter<W>) -> fmt::Result {
         write!(f, "{} pages written", self.bytes / PAGE)
+    }
+}
+
+/// A disk that tells which of its calls failed last, and why.
+pub trait TellsFailure {
+    fn failure(&self) -> Option<Failure>;
+}
+
+impl TellsFailure for FileDisk<SystemFile> {
+    fn failure(&self) -> Option<Failure> {
+        self.last_failure()
     }
 }
 
@@ -70,7 +82,18 @@ impl<'a, R, D> TellingDisk<'a, R, D> {
     }
 }
 
-impl<R: Clock + Eprint, D: Disk> Disk for TellingDisk<'_, R, D> {
+impl<R: AllocGlobal, D: TellsFailure> TellingDisk<'_, R, D> {
+    /// Keeps why a call failed, if it did. If it was not the system's failure, the file was too short.
+    fn keep_failure<T>(&self, answer: &Result<T, DiskError>) {
+        match self.disk.failure() {
+            _ if answer.is_ok() => {}
+            Some(failure) => self.progress.keep(self.name, &failure),
+            None => self.progress.keep(self.name, &"it ends too early"),
+        }
+    }
+}
+
+impl<R: AllocGlobal + Clock + Eprint, D: Disk + TellsFailure> Disk for TellingDisk<'_, R, D> {
     ghost content = { λ disk. D.content disk.disk };
 
     ghost left = { λ disk. D.left disk.disk };
@@ -90,6 +113,7 @@ impl<R: Clock + Eprint, D: Disk> Disk for TellingDisk<'_, R, D> {
         if let Ok(length) = &answer {
             self.pages = Some(*length / PAGE);
         }
+        self.keep_failure(&answer);
         answer
     }
 
@@ -100,6 +124,7 @@ impl<R: Clock + Eprint, D: Disk> Disk for TellingDisk<'_, R, D> {
             of: self.pages,
         };
         self.progress.tell_progress(self.name, &how_far);
+        self.keep_failure(&answer);
         answer
     }
 
@@ -107,11 +132,14 @@ impl<R: Clock + Eprint, D: Disk> Disk for TellingDisk<'_, R, D> {
         let answer = self.disk.write_at(at, bytes);
         self.written.bytes = self.written.bytes.saturating_add(bytes.len() as u64);
         self.progress.tell_progress(self.name, &self.written);
+        self.keep_failure(&answer);
         answer
     }
 
     fn sync(&mut self) -> Result<(), DiskError> {
-        self.disk.sync()
+        let answer = self.disk.sync();
+        self.keep_failure(&answer);
+        answer
     }
 
     ghost leaves_content = { λ disk. D.leaves_content disk.disk };

@@ -1,4 +1,4 @@
-//! Reports on standard error of how far a job has come, if `--verbose` asks for them.
+//! Reports on standard error of how far a job has come, if `--verbose` asks for them, and of why it failed.
 ghost use Rattle.std.specs.Prelude.{◌≡◌};
 
 use std::cell::Cell;
@@ -28,12 +28,16 @@ impl Display for ToldName<'_> {
 
 /// Reports on a job on standard error: lines `note: NAME: ..`, where NAME is a file of the job. A fault line begins with another word. Nothing depends on
 /// these reports: a line that cannot be written is skipped, and so is one for which the clock gives no time.
+///
+/// It also keeps why a call of the job failed last, to report it after the fault line.
 #[derive(Drop)]
 pub struct Progress<'a, R> {
     rt: &'a R,
     is_asked: bool,
     // When the last line of progress was written; at first, when there was first one to write.
     told_at: Cell<Option<Instant>>,
+    // On what a call failed, and why.
+    reason: Cell<Option<String>>,
 }
 
 impl<'a, R> Progress<'a, R> {
@@ -43,6 +47,7 @@ impl<'a, R> Progress<'a, R> {
             rt,
             is_asked,
             told_at: Cell::new(None),
+            reason: Cell::new(None),
         }
     }
 
@@ -70,7 +75,24 @@ impl<'a, R: Clock> Progress<'a, R> {
     }
 }
 
+impl<'a, R: AllocGlobal> Progress<'a, R> {
+    /// Keeps why a call on this file failed, instead of what was kept before. If there is no memory for it, nothing is kept.
+    pub fn keep<D: Display>(&self, name: &str, why: &D) {
+        let name = ToldName { name };
+        self.reason
+            .set(format!(in self.rt.alloc(); "{name}: {why}").ok());
+    }
+}
+
 impl<'a, R: Eprint> Progress<'a, R> {
+    /// Reports what was kept, if anything was: `roadmark: NAME: WHY`.
+    pub fn tell_reason(&self) {
+        if let Some(reason) = self.reason.take() {
+            let rt = self.rt;
+            let _ = eprintln!(rt; "roadmark: {reason}");
+        }
+    }
+
     /// Reports this about a file.
     pub fn tell<D: Display>(&self, name: &str, what: &D) {
         if self.is_asked {

@@ -3,9 +3,22 @@ ghost use Rattle.std.specs.Prelude.{◌≡◌};
 ghost use Rattle.progress.specs.Inside.{reader_inside, writer_inside};
 
 use crate::notes::Progress;
+use filedisk::{Call, Failure};
 use std::fmt::{self, Display};
 use std::io::{self, ErrorKind, Read, Write};
 use std::time::Clock;
+
+/// Keeps why a call of a stream failed. One that a signal interrupts is repeated.
+fn keep_failure<R: AllocGlobal>(
+    progress: &Progress<'_, R>,
+    name: &str,
+    call: Call,
+    error: &io::Error,
+) {
+    if error.kind() != ErrorKind::Interrupted {
+        progress.keep(name, &Failure::of(call, error));
+    }
+}
 
 /// How many bytes of a text were read, and of how many, if that is known.
 #[derive(Clone, Copy)]
@@ -51,7 +64,7 @@ impl<'a, R, S> TellingReader<'a, R, S> {
     }
 }
 
-impl<R: Clock + Eprint, S: Read> Read for TellingReader<'_, R, S> {
+impl<R: AllocGlobal + Clock + Eprint, S: Read> Read for TellingReader<'_, R, S> {
     ghost remaining = { λ reader. S.remaining reader.stream };
 
     fn read(&mut self, buf: &mut [u8]) -> io::Result<usize> {
@@ -61,8 +74,7 @@ impl<R: Clock + Eprint, S: Read> Read for TellingReader<'_, R, S> {
                 self.read.count = self.read.count.saturating_add(*count as u64);
                 self.progress.tell_progress(self.name, &self.read);
             }
-            Err(error) if error.kind() == ErrorKind::Interrupted => {}
-            Err(error) => self.progress.tell(self.name, error),
+            Err(error) => keep_failure(self.progress, self.name, Call::Read, error),
         }
         answer
     }
@@ -108,17 +120,19 @@ impl<'a, R, S> TellingWriter<'a, R, S> {
     }
 }
 
-impl<R: Clock + Eprint, S: Write> Write for TellingWriter<'_, R, S> {
+impl<R: AllocGlobal + Clock + Eprint, S: Write> Write for TellingWriter<'_, R, S> {
     ghost contents = { λ writer. S.contents writer.stream };
 
     fn write(&mut self, buf: &[u8]) -> io::Result<usize> {
         let answer = self.stream.write(buf);
-        if let Ok(count) = &answer
-            && self.progress.is_asked()
-        {
-            let lines = lines_in(&buf[..*count]);
-            self.written.count = self.written.count.saturating_add(lines);
-            self.progress.tell_progress(self.name, &self.written);
+        match &answer {
+            Ok(count) if self.progress.is_asked() => {
+                let lines = lines_in(&buf[..*count]);
+                self.written.count = self.written.count.saturating_add(lines);
+                self.progress.tell_progress(self.name, &self.written);
+            }
+            Ok(_) => {}
+            Err(error) => keep_failure(self.progress, self.name, Call::Write, error),
         }
         answer
     }

@@ -25,12 +25,12 @@ use Rattle.roadnet.specs.Net.{Net}
 use Rattle.machine.specs.declared.events.Replied.TheVariants.{Durable, Refused as told_refused}
 use Rattle.printing.specs.Nodes.{pair_lines}
 use Rattle.printing.specs.Printed.{version_line}
-use Rattle.sessions.specs.declared.sessions.Accepted.{Accepted}
-use Rattle.sessions.specs.declared.sessions.Accepted.TheVariants.{Settled, Unsettled}
+use Rattle.sessions.specs.declared.session.sessions.Accepted.{Accepted}
+use Rattle.sessions.specs.declared.session.sessions.Accepted.TheVariants.{Settled, Unsettled}
 use Rattle.printing.specs.declared.looks.Look.{Look}
 use Rattle.printing.specs.Looks.{look_lines}
 use Rattle.sessions.specs.Copying.{Copying, IsUnmade}
-use Rattle.sessions.specs.declared.finding.Heading.TheVariants.{Shown as of_shown}
+use Rattle.sessions.specs.declared.queries.finding.Heading.TheVariants.{Shown as of_shown}
 use Rattle.sessions.specs.Headings.{untold_lines}
 use Rattle.sessions.specs.Nearby.{IsNearAnswer, IsTableAnswer, IsToldAfter, near_lines}
 use Rattle.sessions.specs.Told.{AnswersAfter, copied_line, copied_or_refusal, IsCopied, IsLooked, IsReached, HaveReceipts, HasMore, HasShown, ShowsLast, Carried, IsDeclined, claim_of, known_to}

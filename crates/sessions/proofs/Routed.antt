@@ -6,7 +6,7 @@ use Rattle.roadnet.specs.Net.{Net}
 use Rattle.routes.specs.declared.replies.RouteReply.{RouteReply}
 use Rattle.routes.specs.RouteReplies.{IsRightRoute}
 use Rattle.printing.specs.RouteLines.{route_lines}
-use Rattle.sessions.specs.declared.finding.Heading.{Heading}
+use Rattle.sessions.specs.declared.queries.finding.Heading.{Heading}
 use Rattle.sessions.specs.Headings.{heading_line}
 use Rattle.sessions.specs.Routed.{IsRouteUnder, route_or_refusal}
 

@@ -21,10 +21,10 @@ use Rattle.session_lines.specs.declared.drafts.Draft.{Draft}
 use Rattle.session_lines.specs.declared.lines.Line.{Line}
 use Rattle.session_lines.specs.declared.lines.Line.TheVariants.{End}
 use Rattle.session_lines.specs.Drafts.{Drafted, IsDraft, IsWhole, fault_of, with_line}
-use Rattle.sessions.specs.declared.sessions.OpenGroup.{OpenGroup}
-use Rattle.sessions.specs.declared.sessions.Purpose.{Purpose}
-use Rattle.sessions.specs.declared.sessions.Purpose.TheVariants.{ToCarryOut}
-use Rattle.sessions.specs.declared.sessions.Session.{Session}
+use Rattle.sessions.specs.declared.session.sessions.OpenGroup.{OpenGroup}
+use Rattle.sessions.specs.declared.session.sessions.Purpose.{Purpose}
+use Rattle.sessions.specs.declared.session.sessions.Purpose.TheVariants.{ToCarryOut}
+use Rattle.sessions.specs.declared.session.sessions.Session.{Session}
 use Rattle.sessions.specs.Copying.{Copying}
 use Rattle.sessions.specs.Saying.{EndsSo, IsKeptGroup, PutsSo, Says, Stays, Tells, state_of}
 use Rattle.sessions.specs.Told.{Carried, HasMore, Settles, known_to}

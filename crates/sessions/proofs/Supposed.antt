@@ -32,9 +32,9 @@ use Rattle.suppositions.specs.Supposing.{Supposition, Supposes, IsUnanswered}
 use Rattle.session_lines.specs.declared.drafts.Draft.{Draft}
 use Rattle.session_lines.specs.Drafts.{Drafted, IsDraft, IsWhole, fault_of}
 use Rattle.session_lines.specs.Tables.{pairs_of}
-use Rattle.sessions.specs.declared.finding.Heading.TheVariants.{Supposed as of_supposed}
-use Rattle.sessions.specs.declared.sessions.Purpose.TheVariants.{ToSuppose}
-use Rattle.sessions.specs.declared.sessions.Session.{Session}
+use Rattle.sessions.specs.declared.queries.finding.Heading.TheVariants.{Supposed as of_supposed}
+use Rattle.sessions.specs.declared.session.sessions.Purpose.TheVariants.{ToSuppose}
+use Rattle.sessions.specs.declared.session.sessions.Session.{Session}
 use Rattle.sessions.specs.Copying.{Copying, no_copying}
 use Rattle.sessions.specs.Headings.{supposed_line, untold_lines}
 use Rattle.sessions.specs.Nearby.{near_lines}

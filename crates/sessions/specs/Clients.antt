@@ -10,9 +10,9 @@ use Rattle.printing.specs.Counting.{writer_of}
 use Rattle.printing.specs.Failing.{CountsWrites}
 use Rattle.session_lines.specs.declared.reading.LastLine.{LastLine}
 use Rattle.session_lines.specs.declared.reading.LastLine.TheVariants.{Dropped}
-use Rattle.sessions.specs.declared.clients.Served.{Served}
-use Rattle.sessions.specs.declared.serving.Terms.{Terms}
-use Rattle.sessions.specs.declared.sessions.Session.{Session}
+use Rattle.sessions.specs.declared.clients.served.Finished.{Finished}
+use Rattle.sessions.specs.declared.clients.serving.Terms.{Terms}
+use Rattle.sessions.specs.declared.session.sessions.Session.{Session}
 use Rattle.sessions.specs.Copying.{Copying, copying_at}
 use Rattle.sessions.specs.Told.{CountsRead, IsOfStream}
 use Rattle.sessions.specs.Turns.{Serves, IsSessionAt}
@@ -25,18 +25,18 @@ AreAnswered copying terms origin remaining contents reader read_on writer writte
     (IsSessionAt origin served.1.place served.1.receipts) served.0)
 
 -- Its lines were answered in their order, as far as its session came; and the counts, from 0 on, tell whether the reader or the writer failed.
-pub record IsAnswered {I W N : Type 0} {n : Ghosts N} (copying : Copying) (last_line : LastLine) (origin : Origin) (remaining : I → Option (List ℕ)) (contents : W → Option (List ℕ)) (reader read_on : I) (writer written_on : W) (served : Served N n) : Type 0 where
+pub record IsAnswered {I W N : Type 0} {n : Ghosts N} (copying : Copying) (last_line : LastLine) (origin : Origin) (remaining : I → Option (List ℕ)) (contents : W → Option (List ℕ)) (reader read_on : I) (writer written_on : W) (served : Finished N n) : Type 0 where
   pub answered : IfSome (remaining reader) (λ text. Serves copying last_line origin text (remaining read_on) (contents writer) (contents written_on) (IsSessionAt origin served.session.place served.session.receipts) served.outcome)
   pub reads : CountsRead 0 served.failed_reads served.outcome
   pub writes : CountsWrites 0 served.failed_writes served.outcome
   pub causes : IfErr served.outcome IsOfStream
 
 -- the same on these terms
-abbrev pub IsServed : {C I W N : Type 0} {n : Ghosts N} → (C → Copying) → Terms C → Origin → (I → Option (List ℕ)) → (W → Option (List ℕ)) → I → I → W → W → Served N n → Type 0
+abbrev pub IsServed : {C I W N : Type 0} {n : Ghosts N} → (C → Copying) → Terms C → Origin → (I → Option (List ℕ)) → (W → Option (List ℕ)) → I → I → W → W → Finished N n → Type 0
 IsServed copying terms origin remaining contents reader read_on writer written_on served =
     IsAnswered (copying terms.copies.now) terms.last_line origin remaining contents reader read_on writer written_on served
 
 -- the same at a door, whose sessions may ask alone: by pipes a client may be cut off in a line, which is not carried out
-abbrev pub IsAnsweredAt : {I W N : Type 0} {n : Ghosts N} → Bool → Copying → Origin → (I → Option (List ℕ)) → (W → Option (List ℕ)) → I → I → W → W → Served N n → Type 0
+abbrev pub IsAnsweredAt : {I W N : Type 0} {n : Ghosts N} → Bool → Copying → Origin → (I → Option (List ℕ)) → (W → Option (List ℕ)) → I → I → W → W → Finished N n → Type 0
 IsAnsweredAt asks_alone copying origin remaining contents reader read_on writer written_on served =
     IsAnswered (copying_at asks_alone copying) Dropped origin remaining contents reader read_on writer written_on served

@@ -6,8 +6,8 @@ use Rattle.roadnet.specs.declared.refusals.Refusal.TheVariants.{NoSuchNode}
 use Rattle.roadnet.specs.Numbers.{number_of}
 use Rattle.printing.specs.Printed.{refusal_line, version_line}
 use Rattle.printing.specs.Replied.{number_line}
-use Rattle.sessions.specs.declared.finding.Heading.{Heading}
-use Rattle.sessions.specs.declared.finding.Heading.TheVariants.{Shown, Supposed}
+use Rattle.sessions.specs.declared.queries.finding.Heading.{Heading}
+use Rattle.sessions.specs.declared.queries.finding.Heading.TheVariants.{Shown, Supposed}
 
 -- `s V`
 abbrev pub supposed_line : ℕ → List ℕ

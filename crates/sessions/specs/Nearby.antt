@@ -14,7 +14,7 @@ use Rattle.rows.specs.declared.nearby.Near.TheVariants.{Reach, Reached, Nearest}
 use Rattle.rows.specs.Nearby.{are_pairs, node_of, IsNear, IsUntold}
 use Rattle.printing.specs.Nodes.{nearest_lines, pair_lines, reach_lines, reached_lines}
 use Rattle.printing.specs.Printed.{refusal_line, version_line}
-use Rattle.sessions.specs.declared.finding.Heading.TheVariants.{Shown}
+use Rattle.sessions.specs.declared.queries.finding.Heading.TheVariants.{Shown}
 use Rattle.sessions.specs.Headings.{untold_lines}
 use Rattle.sessions.specs.Told.{IsUnsighted}
 

@@ -9,8 +9,8 @@ use Rattle.routes.specs.RouteReplies.{IsRightRoute}
 use Rattle.printing.specs.Printed.{refusal_line}
 use Rattle.printing.specs.RouteLines.{route_lines}
 use Rattle.suppositions.specs.Supposing.{Supposition}
-use Rattle.sessions.specs.declared.finding.Heading.{Heading}
-use Rattle.sessions.specs.declared.finding.Heading.TheVariants.{Shown, Supposed}
+use Rattle.sessions.specs.declared.queries.finding.Heading.{Heading}
+use Rattle.sessions.specs.declared.queries.finding.Heading.TheVariants.{Shown, Supposed}
 use Rattle.sessions.specs.Headings.{heading_line}
 
 -- the heading and the lines of a reply in this network, or `no 11`

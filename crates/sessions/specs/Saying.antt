@@ -17,12 +17,12 @@ use Rattle.printing.specs.declared.writer.CountedWriter.{CountedWriter}
 use Rattle.session_lines.specs.declared.drafts.Draft.{Draft}
 use Rattle.session_lines.specs.declared.lines.Line.{Line}
 use Rattle.session_lines.specs.Drafts.{Drafted, IsDraft}
-use Rattle.sessions.specs.declared.sessions.OpenGroup.{OpenGroup}
-use Rattle.sessions.specs.declared.sessions.Session.{Session}
+use Rattle.sessions.specs.declared.session.sessions.OpenGroup.{OpenGroup}
+use Rattle.sessions.specs.declared.session.sessions.Session.{Session}
 use Rattle.sessions.specs.Copying.{Copying}
 use Rattle.sessions.specs.Told.{HasMore, known_to}
 use Rattle.sessions.specs.Turns.{Grouped, SessionState, IsAnswer, IsEnd, next_group}
-use Rattle.sessions.specs.declared.sessions.Purpose.{Purpose}
+use Rattle.sessions.specs.declared.session.sessions.Purpose.{Purpose}
 
 -- It stays the same writer, and nothing but a failed write is told, 12, which is counted; where no write fails bytes are written that are as this says, and
 -- nothing else.

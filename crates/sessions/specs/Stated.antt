@@ -3,9 +3,9 @@ use Rattle.std.specs.Prelude.{ℕ, List, ◌++◌, Result, Ok, Err, decimal}
 use lib.Chars.{codes}
 use Rattle.roadnet.specs.declared.refusals.Refusal.{Refusal}
 use Rattle.roadnet.specs.Numbers.{number_of}
-use Rattle.desk.specs.declared.states.DeskState.{DeskState}
-use Rattle.desk.specs.declared.states.Working.{Working}
-use Rattle.desk.specs.declared.states.Working.TheVariants.{On, Ended, Broken}
+use Rattle.desk.specs.declared.handles.states.DeskState.{DeskState}
+use Rattle.desk.specs.declared.handles.states.Working.{Working}
+use Rattle.desk.specs.declared.handles.states.Working.TheVariants.{On, Ended, Broken}
 use Rattle.printing.specs.Printed.{refusal_line}
 
 -- a word between blanks, and a number

@@ -27,7 +27,7 @@ use Rattle.printing.specs.Nodes.{pair_lines}
 use Rattle.printing.specs.Printed.{answer_line, refusal_line}
 use Rattle.printing.specs.Replied.{number_line}
 use Rattle.suppositions.specs.Supposing.{Supposition, Supposes, IsUnanswered}
-use Rattle.sessions.specs.declared.finding.Heading.TheVariants.{Supposed}
+use Rattle.sessions.specs.declared.queries.finding.Heading.TheVariants.{Supposed}
 use Rattle.sessions.specs.Headings.{supposed_line, untold_lines}
 use Rattle.sessions.specs.Nearby.{near_lines}
 use Rattle.sessions.specs.Told.{IsUnsighted}

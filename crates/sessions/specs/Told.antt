@@ -25,8 +25,8 @@ use lib.Chars.{codes}
 use Rattle.printing.specs.Printed.{refusal_line}
 use Rattle.printing.specs.Replied.{number_line}
 use Rattle.sessions.specs.Copying.{Copying, IsUnmade}
-use Rattle.sessions.specs.declared.sessions.Accepted.{Accepted}
-use Rattle.sessions.specs.declared.sessions.Accepted.TheVariants.{Settled, Unsettled}
+use Rattle.sessions.specs.declared.session.sessions.Accepted.{Accepted}
+use Rattle.sessions.specs.declared.session.sessions.Accepted.TheVariants.{Settled, Unsettled}
 use Rattle.printing.specs.declared.looks.Look.{Look}
 use Rattle.printing.specs.Looks.{look_lines}
 

@@ -18,7 +18,7 @@ use Rattle.machine.specs.declared.calls.Ticket.{Ticket}
 use Rattle.machine.specs.Laws.{IsAt}
 use Rattle.history.specs.Origins.{Origin, Beginning}
 use Rattle.office.specs.Left.{KeepsSeen}
-use Rattle.desk.specs.declared.states.DeskState.{DeskState}
+use Rattle.desk.specs.declared.handles.states.DeskState.{DeskState}
 use Rattle.desk.specs.States.{StoodSo}
 use Rattle.printing.specs.declared.failed.Failed.{Failed}
 use Rattle.printing.specs.declared.failed.Failed.TheVariants.{Code as of_code}
@@ -34,9 +34,9 @@ use Rattle.session_lines.specs.Reads.{ReadsOne, FailsInLine, ReadsLine}
 use Rattle.session_lines.specs.SessionLines.{is_quit, name_of}
 use Rattle.session_lines.specs.Tables.{pairs_of}
 use Rattle.suppositions.specs.Supposing.{Supposition}
-use Rattle.sessions.specs.declared.sessions.Accepted.{Accepted}
-use Rattle.sessions.specs.declared.sessions.Purpose.{Purpose}
-use Rattle.sessions.specs.declared.sessions.Purpose.TheVariants.{ToCarryOut, ToSuppose}
+use Rattle.sessions.specs.declared.session.sessions.Accepted.{Accepted}
+use Rattle.sessions.specs.declared.session.sessions.Purpose.{Purpose}
+use Rattle.sessions.specs.declared.session.sessions.Purpose.TheVariants.{ToCarryOut, ToSuppose}
 use Rattle.sessions.specs.Copying.{Copying}
 use Rattle.sessions.specs.Nearby.{IsNearAnswer, IsTableAnswer, IsToldAfter}
 use Rattle.sessions.specs.Routed.{IsRouteAnswer, IsRouteIn}

@@ -33,10 +33,10 @@ pub struct Shell<'a, R> {
     pub fails_at: usize,
     /// Each later one fails too.
     pub stays_failed: bool,
-    /// The clock tells a time, which is a second later each time.
-    pub has_clock: bool,
+    /// A second of the clock passes each time that it was asked so often; it tells no time if that is 0.
+    pub asks_a_second: u64,
     // How often the clock was asked.
-    pub(crate) seconds: Cell<u64>,
+    pub(crate) asks: Cell<u64>,
     /// Nothing is written to the standard error: each write to it fails.
     pub is_mute: bool,
 }
@@ -77,8 +77,8 @@ impl<'a, R: AllocGlobal> Shell<'a, R> {
             blunt: false,
             fails_at: 0,
             stays_failed: false,
-            has_clock: false,
-            seconds: Cell::new(0),
+            asks_a_second: 0,
+            asks: Cell::new(0),
             is_mute: false,
         })
     }

@@ -1,15 +1,85 @@
--- The same legs for narrower buckets.
-use Rattle.std.proofs.Common.{ℕ, ◌≤◌, ◌<◌, List, refl, arith}
-use Rattle.snapshot.specs.Groups.{Groups, IsGrouped, IsNarrowed, legs_of}
+-- The same legs for narrower buckets, parted as they were or all of a node's in its light part.
+use Rattle.std.proofs.Common.{◌≡◌, ◌∙◌, ◌⊎◌, inl, inr, ℕ, zero, suc, ◌+◌, ◌-◌, ◌*◌, ◌≤◌, ◌<◌, Bool, true, false, List, [], ◌∷◌, ◌++◌, get_or, Contains, refl, sym, subst, ap₂, arith, append-nil, ⊎_elim}
+use Rattle.std.proofs.lemmas.List.Elements.{Contains-append_left, Contains-append_right, Contains-append_cases}
+use Rattle.snapshot.specs.Groups.{Groups, HasLeg, IsGrouped, IsNarrowed, joined, legs_of, parts_of, pieces}
 use Rattle.snapshot.specs.declared.legs.Leg.{Leg}
+use Rattle.snapshot.specs.declared.legs.Part.{Part}
+use Rattle.snapshot.specs.declared.legs.Part.TheVariants.{Light, Heavy}
+
+pub light_at : (parts : List (List Leg)) (p u : ℕ) → p ≡ 2 * u → get_or (joined parts) p [] ≡ get_or parts p [] ++ get_or parts (p + 1) []
+light_at [] p u e = refl
+light_at (light ∷ []) zero u e = sym (append-nil light)
+light_at (light ∷ []) (suc p) u e = let next : suc p + 1 ≡ suc (p + 1) = omega arith in rw next refl
+light_at (light ∷ (heavy ∷ parts)) zero u e = refl
+light_at (light ∷ (heavy ∷ parts)) (suc zero) u e = absurd (omega (arith, e))
+light_at (light ∷ (heavy ∷ parts)) (suc (suc p)) u e = let next : suc (suc p) + 1 ≡ suc (suc (p + 1)) = omega arith in rw next (light_at parts p (u - 1) (omega (arith, e)))
+
+pub heavy_at : (parts : List (List Leg)) (p u : ℕ) → p ≡ 2 * u + 1 → get_or (joined parts) p [] ≡ []
+heavy_at [] p u e = refl
+heavy_at (light ∷ []) zero u e = absurd (omega (arith, e))
+heavy_at (light ∷ []) (suc p) u e = refl
+heavy_at (light ∷ (heavy ∷ parts)) zero u e = absurd (omega (arith, e))
+heavy_at (light ∷ (heavy ∷ parts)) (suc zero) u e = refl
+heavy_at (light ∷ (heavy ∷ parts)) (suc (suc p)) u e = heavy_at parts p (u - 1) (omega (arith, e))
+
+abbrev pub with_parts : ℕ → ℕ → ℕ → List (List Leg) → Groups
+with_parts nodes delta greatest parts = record { nodes = nodes; delta = delta; greatest = greatest; parts = parts }
 
 module _ (nodes delta greatest narrow : ℕ) (parts : List (List Leg)) where
-  abbrev at : ℕ → Groups
-  at width = record { nodes = nodes; delta = width; greatest = greatest; parts = parts }
-
-  pub IsGrouped-narrowed : IsGrouped (at delta) → 1 ≤ narrow → narrow ≤ delta → IsGrouped (at narrow)
+  light_is : (u : ℕ) → legs_of (with_parts nodes narrow greatest (joined parts)) Light u ≡ legs_of (with_parts nodes delta greatest parts) Light u ++ legs_of (with_parts nodes delta greatest parts) Heavy u
   unfolding legs_of
-  IsGrouped-narrowed was positive less = record {
+  light_is u = light_at parts (2 * u) u refl
+
+  heavy_is : (u : ℕ) → legs_of (with_parts nodes narrow greatest (joined parts)) Heavy u ≡ []
+  unfolding legs_of
+  heavy_is u = heavy_at parts (2 * u + 1) u refl
+
+  none_heavy : (u : ℕ) (leg : Leg) → Contains (legs_of (with_parts nodes narrow greatest (joined parts)) Heavy u) leg → ⊥
+  none_heavy u leg c = let none : Contains [] leg = subst (λ (l : List Leg). Contains l leg) (heavy_is u) c in let absurdity : ⊥ = omega (arith, none.1) in absurdity
+
+  was : (part : Part) (u : ℕ) (leg : Leg) → Contains (legs_of (with_parts nodes narrow greatest (joined parts)) part u) leg → HasLeg (with_parts nodes delta greatest parts) u leg
+  was Light u leg c =
+      ⊎_elim
+      (λ (light : Contains (legs_of (with_parts nodes delta greatest parts) Light u) leg). record { part = Light; among = light })
+      (λ (heavy : Contains (legs_of (with_parts nodes delta greatest parts) Heavy u) leg). record { part = Heavy; among = heavy })
+      (Contains-append_cases (legs_of (with_parts nodes delta greatest parts) Light u) (legs_of (with_parts nodes delta greatest parts) Heavy u) leg (subst (λ (l : List Leg). Contains l leg) (light_is u) c))
+  was Heavy u leg c = absurd (none_heavy u leg c)
+
+  stays : (part : Part) (u : ℕ) (leg : Leg) → Contains (legs_of (with_parts nodes delta greatest parts) part u) leg → HasLeg (with_parts nodes narrow greatest (joined parts)) u leg
+  stays Light u leg c = record { part = Light; among = subst (λ (l : List Leg). Contains l leg) (sym (light_is u)) (Contains-append_left (legs_of (with_parts nodes delta greatest parts) Light u) (legs_of (with_parts nodes delta greatest parts) Heavy u) leg c) }
+  stays Heavy u leg c = record { part = Light; among = subst (λ (l : List Leg). Contains l leg) (sym (light_is u)) (Contains-append_right (legs_of (with_parts nodes delta greatest parts) Light u) (legs_of (with_parts nodes delta greatest parts) Heavy u) leg c) }
+
+  none_of : IsGrouped (with_parts nodes delta greatest parts) → (u : ℕ) → ((part : Part) → legs_of (with_parts nodes delta greatest parts) part u ≡ []) → (part : Part) → legs_of (with_parts nodes narrow greatest (joined parts)) part u ≡ []
+  none_of grouped u none Light = light_is u ∙ ap₂ (λ (a b : List Leg). a ++ b) (none Light) (none Heavy)
+  none_of grouped u none Heavy = heavy_is u
+
+  pub IsGrouped-joined : IsGrouped (with_parts nodes delta greatest parts) → 1 ≤ narrow → IsGrouped (with_parts nodes narrow greatest (joined parts))
+  IsGrouped-joined grouped positive = record {
+    nodes = grouped.nodes;
+    some_node = grouped.some_node;
+    delta = positive;
+    greatest = grouped.greatest;
+    first = none_of grouped 0 grouped.first;
+    beyond = λ part u far. none_of grouped u (λ p. grouped.beyond p u far) part;
+    longer = λ u leg c. absurd (none_heavy u leg c);
+    low = λ part u leg c. let h = was part u leg c in grouped.low h.part u leg h.among;
+    high = λ part u leg c. let h = was part u leg c in grouped.high h.part u leg h.among;
+    length = λ part u leg c. let h = was part u leg c in grouped.length h.part u leg h.among;
+  }
+
+  pub IsNarrowed-joined : narrow ≤ delta → IsNarrowed (with_parts nodes delta greatest parts) (with_parts nodes narrow greatest (joined parts))
+  IsNarrowed-joined less = record {
+    nodes = refl;
+    delta = less;
+    greatest = refl;
+    of_wide = λ u leg h. was h.part u leg h.among;
+    of_narrow = λ u leg h. stays h.part u leg h.among;
+  }
+
+module _ (nodes delta greatest narrow : ℕ) (parts : List (List Leg)) where
+  IsGrouped-parted : IsGrouped (with_parts nodes delta greatest parts) → 1 ≤ narrow → narrow ≤ delta → IsGrouped (with_parts nodes narrow greatest parts)
+  unfolding legs_of
+  IsGrouped-parted was positive less = record {
     nodes = was.nodes;
     some_node = was.some_node;
     delta = positive;
@@ -22,6 +92,28 @@ module _ (nodes delta greatest narrow : ℕ) (parts : List (List Leg)) where
     length = was.length;
   }
 
-  pub IsNarrowed-of : narrow ≤ delta → IsNarrowed (at delta) (at narrow)
+  IsNarrowed-parted : narrow ≤ delta → IsNarrowed (with_parts nodes delta greatest parts) (with_parts nodes narrow greatest parts)
   unfolding legs_of
-  IsNarrowed-of less = record { nodes = refl; delta = less; greatest = refl; legs = λ part u. refl }
+  IsNarrowed-parted less = record {
+    nodes = refl;
+    delta = less;
+    greatest = refl;
+    of_wide = λ u leg h. record { part = h.part; among = h.among };
+    of_narrow = λ u leg h. record { part = h.part; among = h.among };
+  }
+
+module _ (nodes delta greatest narrow : ℕ) (starts : List ℕ) (legs : List Leg) where
+  pub IsGrouped-narrowed : (b joins : Bool) → b ≡ false → IsGrouped (with_parts nodes delta greatest (parts_of b starts legs)) → 1 ≤ narrow → narrow ≤ delta → IsGrouped (with_parts nodes narrow greatest (parts_of joins starts legs))
+  IsGrouped-narrowed false false e grouped positive less = IsGrouped-parted nodes delta greatest narrow (pieces starts legs) grouped positive less
+  IsGrouped-narrowed false true e grouped positive less = IsGrouped-joined nodes delta greatest narrow (pieces starts legs) grouped positive
+  IsGrouped-narrowed true joins e grouped positive less = absurd (let absurdity : ⊥ = cc in absurdity)
+
+  pub IsNarrowed-of : (b joins : Bool) → b ≡ false → narrow ≤ delta → IsNarrowed (with_parts nodes delta greatest (parts_of b starts legs)) (with_parts nodes narrow greatest (parts_of joins starts legs))
+  IsNarrowed-of false false e less = IsNarrowed-parted nodes delta greatest narrow (pieces starts legs) less
+  IsNarrowed-of false true e less = IsNarrowed-joined nodes delta greatest narrow (pieces starts legs) less
+  IsNarrowed-of true joins e less = absurd (let absurdity : ⊥ = cc in absurdity)
+
+  -- no leg is a heavy one
+  pub none_is_heavy : (b : Bool) → b ≡ true → (u : ℕ) → legs_of (with_parts nodes delta greatest (parts_of b starts legs)) Heavy u ≡ []
+  none_is_heavy false e u = absurd (let absurdity : ⊥ = cc in absurdity)
+  none_is_heavy true e u = heavy_is nodes delta greatest delta (pieces starts legs) u

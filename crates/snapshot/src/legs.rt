@@ -1,6 +1,6 @@
-ghost use Rattle.std.specs.Prelude.{◌≡◌};
+ghost use Rattle.std.specs.Prelude.{◌≡◌, ◌≤◌, ◌+◌, ◌*◌};
 ghost use Rattle.snapshot.specs.Groups.{part_place};
-ghost use Rattle.snapshot.specs.Places.{place_of};
+ghost use Rattle.snapshot.specs.Places.{ends_of, place_of};
 
 use roadnet::RoadArc;
 
@@ -28,6 +28,26 @@ pub(crate) fn part_place(part: Part, node: u32) -> usize
     match part {
         Part::Light => first,
         Part::Heavy => first + 1,
+    }
+}
+
+/// The places where a part of a node begins and ends, where its light part has all its legs or not.
+#[inline(always)]
+pub(crate) fn part_ends(joined: bool, part: Part, node: u32) -> (usize, usize)
+    ensures ends { result ≡ ends_of joined part node }
+    ensures order { result.0 ≤ result.1 }
+    ensures within { result.1 ≤ 2 * node + 2 }
+{
+    let first = 2 * node as usize;
+    if joined {
+        return match part {
+            Part::Light => (first, first + 2),
+            Part::Heavy => (first + 2, first + 2),
+        };
+    }
+    match part {
+        Part::Light => (first, first + 1),
+        Part::Heavy => (first + 1, first + 2),
     }
 }
 

@@ -27,6 +27,8 @@ use pages::{
 use roadnet::{Network, Refusal};
 use std::alloc::Global;
 
+// Not inlined, as those that follow, so that the pages that these functions encode are not on the stack all at once.
+#[inline(never)]
 fn put_arcs<D: Disk>(
     disk: &mut D,
     batch: &mut Batch,
@@ -47,6 +49,7 @@ fn put_arcs<D: Disk>(
     Ok(())
 }
 
+#[inline(never)]
 fn put_words<D: Disk>(
     disk: &mut D,
     batch: &mut Batch,
@@ -67,6 +70,7 @@ fn put_words<D: Disk>(
     Ok(())
 }
 
+#[inline(never)]
 fn put_blank<D: Disk>(disk: &mut D, batch: &mut Batch, count: u64) -> Result<(), DiskError>
     requires few { batch.old.next + count ≤ 2 ^ 32 }
     requires in_step { D.honest disk.old → IsInStep (D.content disk.old) batch.old }
@@ -82,6 +86,7 @@ fn put_blank<D: Disk>(disk: &mut D, batch: &mut Batch, count: u64) -> Result<(),
 }
 
 /// Writes all pages of a new store to an empty disk, with their gates closed.
+#[inline(never)]
 fn lay_out<D: Disk>(
     disk: &mut D,
     batch: &mut Batch,

@@ -1,4 +1,5 @@
 pub mod Refused
+pub mod Refusals
 pub mod Outcomes
 pub mod Created
 pub mod Asked

@@ -22,6 +22,7 @@ ghost use Rattle.storetexts.specs.Outcomes.{IsSettled, IsUnsettledAt};
 ghost use Rattle.storetexts.specs.Refused.{ComesBack, CountsDevice, IfNoMemory, IsOfStore};
 
 use crate::outcomes::{Outcome, reply_of};
+use crate::refusals::{HearsRefusals, refused_place};
 use dimacs::{Text, read_commands};
 use disk::Disk;
 use keeper::Ledger;
@@ -177,10 +178,24 @@ impl<D: Disk> Applying<D> {
         flushed.map_err(Failed::Code)
     }
 
-    /// Takes the next group, and settles what is pending if that fills a page.
-    fn advance<W: Write>(
+    /// Tells for which of its commands the last group is refused, if it is: for the first, if there is no memory to look. So many commands come before it.
+    fn hear<H: HearsRefusals>(&self, group: &Group, before: usize, hears: &H) {
+        if let Some(Outcome::Refused { refusal }) = self.outcomes.last() {
+            let alloc = *self.outcomes.allocator();
+            let place = match group.commands().len() {
+                1 => 0,
+                _ => refused_place(alloc, &self.ledger, group).unwrap_or(0),
+            };
+            hears.refused(before.saturating_add(place), *refusal);
+        }
+    }
+
+    /// Takes the next group, before which there were so many commands, and settles what is pending if that fills a page.
+    fn advance<H: HearsRefusals, W: Write>(
         &mut self,
         group: &Group,
+        before: usize,
+        hears: &H,
         out: &mut CountedWriter<'_, W>,
     ) -> Result<(), Failed>
         requires ready { IsReady self.old.ledger.machine }
@@ -194,6 +209,7 @@ impl<D: Disk> Applying<D> {
         ensures advances { Advances D.Disk result self.old self.new out.old out.new }
     {
         self.take(group);
+        self.hear(group, before, hears);
         if self.ledger.pending() < MOST_OF_PAGE {
             return Ok(());
         }
@@ -201,9 +217,10 @@ impl<D: Disk> Applying<D> {
     }
 
     /// Takes the groups in their order, and settles what is pending whenever that fills a page.
-    fn take_all<W: Write>(
+    fn take_all<H: HearsRefusals, W: Write>(
         &mut self,
         groups: &[Group],
+        hears: &H,
         out: &mut CountedWriter<'_, W>,
     ) -> Result<(), Failed>
         requires new { IsNew self.old }
@@ -213,16 +230,19 @@ impl<D: Disk> Applying<D> {
         ensures lines { IfTold result (LinesTold (W.contents (writer_of out.old)) (W.contents (writer_of out.new)) self.new.outcomes.items self.new.told) }
         ensures advances { Advances D.Disk result self.old self.new out.old out.new }
     {
+        let mut before = 0usize;
         for index in 0..groups.len() {
-            self.advance(&groups[index], out)?;
+            self.advance(&groups[index], before, hears, out)?;
+            before = before.saturating_add(groups[index].commands().len());
         }
         Ok(())
     }
 
     /// Takes the groups and settles them all.
-    fn run<W: Write>(
+    fn run<H: HearsRefusals, W: Write>(
         &mut self,
         groups: &[Group],
+        hears: &H,
         out: &mut CountedWriter<'_, W>,
     ) -> Result<(), Failed>
         requires new { IsNew self.old }
@@ -234,7 +254,7 @@ impl<D: Disk> Applying<D> {
         ensures all { OnOk result (ForNewLedger self.old.ledger.machine (λ net version. self.new.told ≡ length self.new.outcomes.items)) }
         ensures advances { Advances D.Disk result self.old self.new out.old out.new }
     {
-        self.take_all(groups, out)?;
+        self.take_all(groups, hears, out)?;
         self.settle(ANY, out)
     }
 
@@ -275,10 +295,11 @@ fn ledger_on<D: Disk>(alloc: Global, disk: D) -> Result<Ledger<D>, (Refusal, D)>
 }
 
 /// Applies these groups to the store of a ledger that has just begun.
-fn apply_groups<D: Disk, W: Write>(
+fn apply_groups<D: Disk, H: HearsRefusals, W: Write>(
     alloc: Global,
     ledger: Ledger<D>,
     groups: &[Group],
+    hears: &H,
     out: &mut CountedWriter<'_, W>,
 ) -> (Result<(), Failed>, D)
     requires idle { IsIdle ledger.machine }
@@ -297,12 +318,12 @@ fn apply_groups<D: Disk, W: Write>(
         outcomes,
         told: 0,
     };
-    let ended = applying.run(groups, out);
+    let ended = applying.run(groups, hears, out);
     (ended, applying.close())
 }
 
 /// Applies the groups of commands of a text to the store on a disk, in their order, and writes one line for each group: `ok N` once the group is durable as
-/// version N, or `no CODE` if it is refused (20 to 29, 62, 11). The disk is handed back.
+/// version N, or `no CODE` if it is refused (20 to 29, 62, 11). `hears` is told for which command of the text a group is refused. The disk is handed back.
 ///
 /// The store is opened first, then the text is read completely, then the groups are applied. While 253 commands or more are pending, groups are made
 /// durable, and at the end all of them are. If the journal is full, a checkpoint is written. It takes 24 bytes for the outcome of each group, beside the
@@ -313,10 +334,11 @@ fn apply_groups<D: Disk, W: Write>(
 /// checkpoint (11), the call ends after the lines before the first group that is not durable: no group with a line is lost. A failed write (12) ends it
 /// too: then the last groups may be durable without a line, or lost. A failed read is fault 10 of the line being read. It and 12 are reported only if the
 /// count of failed calls of the text or of the writer rose. After an `Err` the text and the writer are not used again.
-pub fn apply_text<D: Disk, S: Text, W: Write>(
+pub fn apply_text<D: Disk, S: Text, H: HearsRefusals, W: Write>(
     alloc: Global,
     disk: D,
     commands: &mut S,
+    hears: &H,
     out: &mut CountedWriter<'_, W>,
 ) -> (Result<(), Failed>, D)
     // If the disk stands, tidy, for this network at this version, everything that a stop may leave stands for that network after the accepted groups, and
@@ -359,5 +381,5 @@ pub fn apply_text<D: Disk, S: Text, W: Write>(
             return (Err(failed), disk);
         }
     };
-    apply_groups(alloc, ledger, &groups, out)
+    apply_groups(alloc, ledger, &groups, hears, out)
 }

@@ -16,12 +16,13 @@ fn set_up<'a, R>(shell: &mut Shell<'a, R>, setting: &'a str) -> bool {
     match setting.split_once("=") {
         Some(("absent", file)) => shell.absent = file,
         Some(("write-fails", number)) => fail_writes(shell, number),
+        Some(("clock", number)) => shell.asks_a_second = number.parse().unwrap_or(0),
         Some(_) => return false,
         None => match setting {
             "read-fails" => shell.input_fails = true,
             "unwritable" => shell.blunt = true,
             "slow" => shell.is_slow = true,
-            "clock" => shell.has_clock = true,
+            "clock" => shell.asks_a_second = 1,
             "mute" => shell.is_mute = true,
             "brief" | "errors-only" | "tells-files" | "tells-writes" | "tells-rests" => {}
             _ => return false,

@@ -97,7 +97,7 @@ fit_of items_of (Ok pairs) words most different same =
 fit_of items_of (Err why) words most different same = tt
 
 -- the word at a place
-text_at : (words : List (Bor (List ℕ))) (k : ℕ) (d : Bor (List ℕ)) → k < length words → slice_get (texts words) k ≡ Some (slice_index_or words k d).now
+pub text_at : (words : List (Bor (List ℕ))) (k : ℕ) (d : Bor (List ℕ)) → k < length words → slice_get (texts words) k ≡ Some (slice_index_or words k d).now
 text_at words k d less =
     slice_get-map (λ (w : Bor (List ℕ)). w.now) words k ∙ ap (option_map (λ (w : Bor (List ℕ)). w.now)) (slice_get-get_or words k d less)
 

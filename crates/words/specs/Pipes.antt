@@ -18,9 +18,9 @@ names_of (pair ∷ pairs) = pair.input.now ∷ pair.output.now ∷ names_of pair
 abbrev pub StandsBefore : List (List ℕ) → ℕ → Type 0
 StandsBefore names later = (earlier : ℕ) × (earlier < later) × (slice_get names earlier ≡ slice_get names later)
 
--- a name stands at two places
-abbrev pub HasSame : List (List ℕ) → Type 0
-HasSame names = (later : ℕ) × (later < length names) × StandsBefore names later
+-- this name stands at two places
+abbrev pub StandsTwice : List (List ℕ) → List ℕ → Type 0
+StandsTwice names name = (later : ℕ) × (slice_get names later ≡ Some name) × StandsBefore names later
 
 -- no name does
 abbrev pub AreDifferent : List (List ℕ) → Type 0
@@ -41,7 +41,7 @@ ArePairs changing asking pairs = (names_of pairs ≡ changing ++ asking) × AskB
 -- names in twos are for this reason none of pairs that may be served; each of the reasons but want of memory is one of the names alone
 abbrev pub AreUnfit : List (List ℕ) → Misfit → Type 0
 AreUnfit names TooManyPipes = 120 < length names
-AreUnfit names SamePipe = HasSame names
+AreUnfit names (SamePipe name) = StandsTwice names name.now
 AreUnfit names OutOfMemory = 0 < length names
 AreUnfit names other = ⊥
 

@@ -664,10 +664,11 @@ fn argument<'w>(alloc: Global, name: &'w str, help: &'w str) -> Arg<'w> {
     Arg::new(alloc, name).help(help)
 }
 
-/// The same for a number of 64 bits, which help calls so.
+/// The same for a number of 64 bits, which help calls so. A negative one is refused as its value.
 fn number_argument<'w>(alloc: Global, name: &'w str, value: &'w str, help: &'w str) -> Arg<'w> {
     argument(alloc, name, help)
         .value_name(value)
+        .allow_negative_numbers(true)
         .value_parser(value_parser!(u64))
 }
 
@@ -685,7 +686,7 @@ fn text_option<'w>(alloc: Global, name: &'w str, value: &'w str, help: &'w str) 
     argument(alloc, name, help).long(name).value_name(value)
 }
 
-/// An option whose value is a number from 1 to `most`.
+/// An option whose value is a number from 1 to `most`. A negative one is refused as its value.
 fn number_option<'w>(
     alloc: Global,
     name: &'w str,
@@ -693,9 +694,9 @@ fn number_option<'w>(
     most: u32,
     help: &'w str,
 ) -> Arg<'w> {
-    text_option(alloc, name, value, help).value_parser(value_parser!(u32).range(
-        1..=i64::from(most),
-    ))
+    text_option(alloc, name, value, help)
+        .allow_negative_numbers(true)
+        .value_parser(value_parser!(u32).range(1..=i64::from(most)))
 }
 
 /// What stands for a word or an option among those of a command.

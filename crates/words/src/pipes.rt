@@ -1,6 +1,6 @@
 //! The pairs of named pipes that words name.
-ghost use Rattle.std.specs.Prelude.{◌≡◌, ◌%◌, ◌<◌, ◌++◌, length, slice_get, MatchBool, IfOk, IfErr, option_map};
-ghost use Rattle.words.specs.Pipes.{names_of, texts, StandsBefore, AreDifferent, HasSame, AreFit, AreMisfit, ArePairs, AreUnfit, AskBehind};
+ghost use Rattle.std.specs.Prelude.{◌≡◌, ◌%◌, ◌<◌, ◌++◌, length, slice_get, MatchBool, MatchOption, IfOk, IfErr, option_map};
+ghost use Rattle.words.specs.Pipes.{names_of, texts, StandsBefore, AreDifferent, StandsTwice, AreFit, AreMisfit, ArePairs, AreUnfit, AskBehind};
 ghost use Rattle.words.specs.declared.pipes.Misfit.TheVariants.{OutOfMemory as out_of_memory};
 
 use std::alloc::{AllocError, AllocFailed, Global};
@@ -17,7 +17,7 @@ pub struct PipePair<'w> {
 
 /// Why words that were matched are no job.
 #[derive(Clone, Copy, Debug, PartialEq, Eq, Error)]
-pub enum Misfit {
+pub enum Misfit<'w> {
     /// A word that has to stand at its place is not there.
     #[error("a word is missing")]
     MissingWord,
@@ -27,9 +27,9 @@ pub enum Misfit {
     /// There are more than 120 names.
     #[error("more than 120 pipes are named")]
     TooManyPipes,
-    /// A name stands twice among them.
-    #[error("a pipe is named twice")]
-    SamePipe,
+    /// This name stands twice among them.
+    #[error("the pipe {name} is named twice")]
+    SamePipe { name: &'w str },
     /// Two texts are to be read from standard input.
     #[error("standard input is named for two texts: of one of them a file is needed")]
     SameInput,
@@ -41,18 +41,18 @@ pub enum Misfit {
 /// The most names of pipes, two a pair.
 const MOST_PIPES: usize = 120;
 
-impl<T: Drop> From<AllocFailed<T>> for Misfit {
+impl<'w, T: Drop> From<AllocFailed<T>> for Misfit<'w> {
     ghost from_gives = { λ _ why. why ≡ out_of_memory };
 
-    fn from(_failed: AllocFailed<T>) -> Misfit {
+    fn from(_failed: AllocFailed<T>) -> Misfit<'w> {
         Misfit::OutOfMemory
     }
 }
 
-impl From<AllocError> for Misfit {
+impl<'w> From<AllocError> for Misfit<'w> {
     ghost from_gives = { λ _ why. why ≡ out_of_memory };
 
-    fn from(_error: AllocError) -> Misfit {
+    fn from(_error: AllocError) -> Misfit<'w> {
         Misfit::OutOfMemory
     }
 }
@@ -70,16 +70,16 @@ fn stands_before(names: &[&str], later: usize) -> bool
     false
 }
 
-/// Whether a name stands at two places.
-fn have_same(names: &[&str]) -> bool
-    ensures { MatchBool result (HasSame (texts names.now)) (AreDifferent (texts names.now)) }
+/// A name that stands at two places, if there is one.
+fn same_of<'w>(names: &[&'w str]) -> Option<&'w str>
+    ensures { MatchOption result (AreDifferent (texts names.now)) (λ name. StandsTwice (texts names.now) name.now) }
 {
     for later in 0..names.len() {
         if stands_before(names, later) {
-            return true;
+            return Some(names[later]);
         }
     }
-    false
+    None
 }
 
 /// The names two by two. A last one that stands alone is left out. Sessions ask alone at the pairs behind the first `changing` names.
@@ -87,7 +87,7 @@ fn two_by_two<'w>(
     alloc: Global,
     names: &[&'w str],
     changing: usize,
-) -> Result<Vec<PipePair<'w>>, Misfit>
+) -> Result<Vec<PipePair<'w>>, Misfit<'w>>
     requires { length names.now % 2 ≡ 0 }
     ensures pairs { IfOk result (λ pairs. names_of pairs.items ≡ texts names.now) }
     ensures asking { IfOk result (λ pairs. AskBehind changing pairs.items) }
@@ -109,7 +109,7 @@ fn paired<'w>(
     alloc: Global,
     names: &[&'w str],
     changing: usize,
-) -> Result<Vec<PipePair<'w>>, Misfit>
+) -> Result<Vec<PipePair<'w>>, Misfit<'w>>
     requires { length names.now % 2 ≡ 0 }
     ensures pairs { IfOk result (λ pairs. names_of pairs.items ≡ texts names.now) }
     ensures asking { IfOk result (λ pairs. AskBehind changing pairs.items) }
@@ -119,14 +119,18 @@ fn paired<'w>(
     if names.len() > MOST_PIPES {
         return Err(Misfit::TooManyPipes);
     }
-    if have_same(names) {
-        return Err(Misfit::SamePipe);
+    if let Some(name) = same_of(names) {
+        return Err(Misfit::SamePipe { name });
     }
     two_by_two(alloc, names, changing)
 }
 
 /// Names, and behind them others.
-fn joined<'w>(alloc: Global, names: &[&'w str], others: &[&'w str]) -> Result<Vec<&'w str>, Misfit>
+fn joined<'w>(
+    alloc: Global,
+    names: &[&'w str],
+    others: &[&'w str],
+) -> Result<Vec<&'w str>, Misfit<'w>>
     ensures names { IfOk result (λ joined. joined.items ≡ names.now ++ others.now) }
     ensures causes { IfErr result (λ why. why ≡ out_of_memory) }
 {
@@ -144,7 +148,7 @@ pub fn pairs_of<'w>(
     alloc: Global,
     changing: &[&'w str],
     asking: &[&'w str],
-) -> Result<Vec<PipePair<'w>>, Misfit>
+) -> Result<Vec<PipePair<'w>>, Misfit<'w>>
     ensures pairs { IfOk result (λ pairs. ArePairs (texts changing.now) (texts asking.now) pairs.items) }
     ensures fit { IfOk result (λ pairs. AreFit pairs.items) }
     ensures refused { IfErr result (AreMisfit (texts changing.now) (texts asking.now)) }

@@ -17,7 +17,7 @@ use crate::commands::{
 use crate::pipes::{Misfit, PipePair, pairs_of};
 use clap::error::ErrorKind;
 use clap::{ArgMatches, Error};
-use std::alloc::Global;
+use std::alloc::{AllocError, Global};
 use std::convert::AsStr;
 
 /// The texts that give pairs of nodes. A name of a file is as it was written.
@@ -186,6 +186,21 @@ const DEFAULT_PATIENCE: u32 = 30;
 /// The status of a command line that was not understood.
 pub const MISUSE: u8 = 2;
 
+/// How the line begins that says how an option that there is none of would be taken for a name.
+const NAME_TIP: &str = "\n  tip: to pass '";
+
+/// The text of a refusal of the words, without that line.
+fn text_of(alloc: Global, error: &Error) -> Result<String, AllocError> {
+    let text = format!(in alloc; "{error}")?;
+    let Some((before, tip)) = text.as_str().split_once(NAME_TIP) else {
+        return Ok(text);
+    };
+    match tip.split_once("\n") {
+        Some((_, after)) => format!(in alloc; "{}\n{after}", before.trim_end()),
+        None => Ok(text),
+    }
+}
+
 /// What a refusal of the words shows.
 fn usage_of(alloc: Global, error: &Error) -> Usage
     ensures usage { IsUsage result }
@@ -197,7 +212,7 @@ fn usage_of(alloc: Global, error: &Error) -> Usage
     if let ErrorKind::OutOfMemory = error.kind() {
         return out_of_memory(alloc);
     }
-    match format!(in alloc; "{error}") {
+    match text_of(alloc, error) {
         Ok(text) => Usage {
             status: if error.use_stderr() { MISUSE } else { 0 },
             text,
@@ -217,10 +232,10 @@ fn out_of_memory(alloc: Global) -> Usage
 }
 
 /// What a refusal of words that were matched shows: a misuse, but where memory ran out.
-fn usage_for(alloc: Global, misfit: Misfit) -> Usage
+fn usage_for(alloc: Global, misfit: Misfit<'_>) -> Usage
     ensures usage { IsUsage result }
-    ensures memory { misfit ≡ Misfit.OutOfMemory → result.status ≡ 1 }
-    ensures misuse { misfit ≢ Misfit.OutOfMemory → 1 ≤ result.status }
+    ensures memory { misfit.entry ≡ Misfit.OutOfMemory → result.status ≡ 1 }
+    ensures misuse { misfit.entry ≢ Misfit.OutOfMemory → 1 ≤ result.status }
 {
     if let Misfit::OutOfMemory = misfit {
         return out_of_memory(alloc);
@@ -458,7 +473,7 @@ fn check_in<'w>(matches: &ArgMatches<'w>) -> Option<Job<'w>>
 }
 
 /// The pairs that the names of pipes make; none where there are no names.
-fn pipes_in<'w>(alloc: Global, matches: &ArgMatches<'w>) -> Result<Vec<PipePair<'w>>, Misfit>
+fn pipes_in<'w>(alloc: Global, matches: &ArgMatches<'w>) -> Result<Vec<PipePair<'w>>, Misfit<'w>>
     ensures pairs { IfOk result (λ pairs. ArePairs (all_values (found_of matches.now) (codes "PIPES")) (all_values (found_of matches.now) (codes "asking")) pairs.items) }
     ensures fit { IfOk result (λ pairs. AreFit pairs.items) }
     ensures refused { IfErr result (AreMisfit (all_values (found_of matches.now) (codes "PIPES")) (all_values (found_of matches.now) (codes "asking"))) }
@@ -471,7 +486,7 @@ fn pipes_in<'w>(alloc: Global, matches: &ArgMatches<'w>) -> Result<Vec<PipePair<
     }
 }
 
-fn serve_in<'w>(alloc: Global, matches: &ArgMatches<'w>) -> Result<Job<'w>, Misfit>
+fn serve_in<'w>(alloc: Global, matches: &ArgMatches<'w>) -> Result<Job<'w>, Misfit<'w>>
     ensures given { IfOk result (GivesJob (codes "serve") (found_of matches.now)) }
     ensures refused { IfErr result (GivesNoServer (found_of matches.now)) }
 {
@@ -589,7 +604,11 @@ fn plain_job_in<'w>(name: &str, matches: &ArgMatches<'w>) -> Option<Job<'w>>
 }
 
 /// The job of the subcommand of this name.
-fn named_job_in<'w>(alloc: Global, name: &str, matches: &ArgMatches<'w>) -> Result<Job<'w>, Misfit>
+fn named_job_in<'w>(
+    alloc: Global,
+    name: &str,
+    matches: &ArgMatches<'w>,
+) -> Result<Job<'w>, Misfit<'w>>
     ensures { IfOk result (GivesJob name.now (found_of matches.now)) }
 {
     if name == SERVE {
@@ -665,7 +684,7 @@ fn names_input_twice(job: &Job<'_>) -> bool
 }
 
 /// The job that was matched.
-fn job_in<'w>(alloc: Global, matches: &ArgMatches<'w>) -> Result<Job<'w>, Misfit>
+fn job_in<'w>(alloc: Global, matches: &ArgMatches<'w>) -> Result<Job<'w>, Misfit<'w>>
     ensures fit { IfOk result HasFitParts }
     ensures kind { IfOk result (λ job. subcommand_name_of matches.now ≡ subcommand_of job) }
     ensures joint { subcommand_name_of matches.now ≡ None → IfOk result (GivesParts (found_of matches.now)) }

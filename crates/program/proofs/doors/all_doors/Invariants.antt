@@ -1,6 +1,7 @@
-use Rattle.std.proofs.Common.{◌≡◌, vec_len}
+use Rattle.std.proofs.Common.{◌≡◌, map, take}
+use Rattle.program.specs.Doors.{begins_at, stands_at}
 use Rattle.program.proofs.doors.all_doors.Given as goal
 
 -- one door for each pair so far
 abbrev pub invariant-loop-pair : goal.invariant-loop-pair
-invariant-loop-pair g l = vec_len l.doors ≡ l.pair-index
+invariant-loop-pair g l = map stands_at l.doors.items ≡ map begins_at (take l.pair-index l.pairs)

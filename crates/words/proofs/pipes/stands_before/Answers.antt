@@ -1,4 +1,4 @@
-use Rattle.std.proofs.Common.{◌≡◌, ℕ, slice_get, sym, arith}
+use Rattle.std.proofs.Common.{◌≡◌, slice_get, sym, arith}
 use Rattle.words.specs.Pipes.{texts}
 use Rattle.words.proofs.PipeNames.{below_more, same_texts, other_texts}
 use Rattle.words.proofs.pipes.stands_before.Goals as goal

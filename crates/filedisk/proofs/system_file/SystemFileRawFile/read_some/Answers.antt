@@ -6,10 +6,10 @@ use Rattle.filedisk.proofs.system_file.SystemFileRawFile.read_some.Goals as goal
 pub invariant_of-self : goal.invariant_of-self
 invariant_of-self c =
     let old = c.args.self.now.file.notes.calls in
-    let new = c.read_uninterrupted.new.file.notes.calls in
+    let new = c.read_uninterrupted-answer.new.file.notes.calls in
     let count = length c.args.into.now in
-    let outcome = gave c.read_uninterrupted.new.into c.read_uninterrupted.result in
+    let outcome = gave c.read_uninterrupted-answer.new.into c.read_uninterrupted-answer.result in
     record {
-      failed = c.args.self.now.failed ∙ sym (read_keeps_failed c.args.at count outcome old new c.read_uninterrupted.ensures.made);
-      synced = λ known. read_keeps_synced c.args.at count outcome old new c.read_uninterrupted.ensures.made ∙ c.args.self.now.synced known;
+      failed = c.args.self.now.failed ∙ sym (read_keeps_failed c.args.at count outcome old new c.read_uninterrupted-answer.ensures.made);
+      synced = λ known. read_keeps_synced c.args.at count outcome old new c.read_uninterrupted-answer.ensures.made ∙ c.args.self.now.synced known;
     }

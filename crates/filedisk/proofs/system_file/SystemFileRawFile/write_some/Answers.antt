@@ -6,9 +6,9 @@ use Rattle.filedisk.proofs.system_file.SystemFileRawFile.write_some.Goals as goa
 pub invariant_of-self : goal.invariant_of-self
 invariant_of-self c =
     let old = c.args.self.now.file.notes.calls in
-    let new = c.write_uninterrupted.new.file.notes.calls in
-    let outcome = told c.write_uninterrupted.result in
+    let new = c.write_uninterrupted-answer.new.file.notes.calls in
+    let outcome = told c.write_uninterrupted-answer.result in
     record {
-      failed = c.args.self.now.failed ∙ sym (write_keeps_failed c.args.at c.args.bytes.now outcome old new c.write_uninterrupted.ensures.made);
-      synced = λ known. write_keeps_synced c.args.at c.args.bytes.now outcome old new c.write_uninterrupted.ensures.made ∙ c.args.self.now.synced known;
+      failed = c.args.self.now.failed ∙ sym (write_keeps_failed c.args.at c.args.bytes.now outcome old new c.write_uninterrupted-answer.ensures.made);
+      synced = λ known. write_keeps_synced c.args.at c.args.bytes.now outcome old new c.write_uninterrupted-answer.ensures.made ∙ c.args.self.now.synced known;
     }

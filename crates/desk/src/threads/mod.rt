@@ -1,0 +1,11 @@
+//! What the threads of a desk do: the flusher, the builder and the workers on rows.
+
+pub(crate) mod attempts;
+pub(crate) mod building;
+pub(crate) mod flushing;
+pub(crate) mod last;
+mod leaves;
+pub(crate) mod plans;
+mod repairs;
+mod row_workers;
+pub(crate) mod starting;

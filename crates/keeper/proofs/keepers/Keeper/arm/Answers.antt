@@ -1,4 +1,0 @@
-use Rattle.keeper.proofs.keepers.Keeper.arm.Goals as goal
-
-pub returns-clause-arms : goal.returns-clause-arms
-returns-clause-arms g c = rw (← c.self.view_is) c.arm.ensures.arms

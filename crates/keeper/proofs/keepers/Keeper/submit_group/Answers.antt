@@ -1,9 +1,0 @@
-use Rattle.keeper.proofs.Lifted.{lift_submit}
-use Rattle.keeper.proofs.Viewed.{viewed_submit}
-use Rattle.keeper.proofs.keepers.Keeper.submit_group.Goals as goal
-
-pub returns-clause-step : goal.returns-clause-step
-returns-clause-step g c = rw (← c.self.view_is) (lift_submit c.self.inside.shown.version _ c.self.inside.ledger.machine c.submit_group.new.self.machine c.args.group c.submit_group.result c.submit_group.ensures.step)
-
-pub invariant_of-self : goal.invariant_of-self
-invariant_of-self g c = viewed_submit c.self.inside.shown.version _ c.self.inside.ledger.machine c.submit_group.new.self.machine c.self.inside.shown.network _ c.self.invariant c.args.group c.submit_group.result c.submit_group.ensures.step

@@ -1,4 +1,0 @@
-use Rattle.keeper.proofs.ledgers.Ledger.holds_durable.Goals as goal
-
-pub returns : goal.returns
-returns g c = rw (← c.self.view_is) c.self.invariant.2

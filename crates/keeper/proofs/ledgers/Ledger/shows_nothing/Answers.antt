@@ -1,5 +1,0 @@
-use Rattle.std.proofs.Common.{refl}
-use Rattle.keeper.proofs.ledgers.Ledger.shows_nothing.Goals as goal
-
-pub returns : goal.returns
-returns g c = rw (← c.self.view_is) refl

@@ -1,9 +1,0 @@
--- A store that is not opened is told of by its own refusal.
-use Rattle.std.proofs.Common.{refl, inl, inr}
-use Rattle.program.proofs.store_jobs.after_sources.Goals as goal
-
-pub returns-in-Ok : goal.returns-in-Ok
-returns-in-Ok g c = λ honest. let stands = c.in-Ok.ensures.stands honest in inl ((c.in-Ok.store.network, c.in-Ok.store.version, stands.0, stands.1), c.fault_of_sources.ensures)
-
-pub returns : goal.returns
-returns g c = λ honest. inr (c.in-Err.refusal, refl, c.in-Err.ensures.judged honest)

@@ -278,6 +278,8 @@ class Doors(InFolder):
         self.shown("note: durable 1, shown 1, 1 clients, 2 came, 1 went")
         two.leave()
         lines = self.shown("note: durable 1, shown 1, 0 clients, 2 came, 2 went")
+        time.sleep(2.5)
+        self.assertEqual(self.errors.read_text().splitlines(), lines, "a second in which nothing changed")
         for count in range(2, 30):
             self.assertIn(self.come().says(f"set 1 {count}\n"), f"ok {count}\n")
         told = len(self.errors.read_text().splitlines()) - len(lines)

@@ -1,15 +1,16 @@
 -- Up to which length the values of a search are final that ends before all nodes are settled.
-use Rattle.std.proofs.Common.{◌≡◌, ℕ, zero, suc, ◌+◌, ◌-◌, ◌*◌, ◌/◌, ◌<◌, ◌≤◌, List, [], ◌∷◌, length, Contains, Option, Some, None, IsSome, MatchOption, get_or, refl, sym, ap, subst, ◌∙◌, inl, inr, arith, le_refl, le_trans, div-lt_iff_lt-mul}
+use Rattle.std.proofs.Common.{◌≡◌, ◌↔◌, ℕ, zero, suc, ◌+◌, ◌-◌, ◌*◌, ◌/◌, ◌<◌, ◌≤◌, Bool, true, false, IsTrue, List, [], ◌∷◌, length, Option, Some, None, IsSome, MatchOption, refl, sym, ap, subst, ◌∙◌, inl, inr, arith, le_refl, div-lt_iff_lt-mul}
 use Rattle.std.proofs.lemmas.Bool.{cases_lt}
 use Rattle.std.proofs.lemmas.List.{get_or_past}
-use Rattle.std.specs.FinMap.{empty, get}
+use Rattle.std.specs.FinMap.{empty, get, get-empty}
+use Rattle.std.specs.Ordering.{nat_cmp}
 use Rattle.relax.specs.Values.{value_at, value_or}
 use Rattle.roadnet.specs.Net.{Net, IsNode}
 use Rattle.roadnet.specs.Walks.{Least, NoWalk, RowOf, distance_at}
 use Rattle.snapshot.specs.Groups.{Groups, IsGrouped, IsSnapshotOf}
 use Rattle.buckets.specs.Queue.{Entries}
-use Rattle.deltastep.specs.Reach.{AreFinal, IsBeyond, IsWithin}
-use Rattle.deltastep.specs.Search.{AreLater, IsBetweenBuckets, IsFinal, IsRelaxedBut, IsSearch, Trip, top_of, trip_length}
+use Rattle.deltastep.specs.Reach.{AreFinal, IsBeyond, IsDistance, IsKnownTo, IsWithin}
+use Rattle.deltastep.specs.Search.{AreLater, IsBetweenBuckets, IsFinal, IsRelaxedBut, Trip, top_of, trip_length}
 use Rattle.snapshot.specs.declared.legs.Leg.{Leg}
 use Rattle.snapshot.specs.declared.legs.Part.{Part}
 use Rattle.snapshot.specs.declared.legs.Part.TheVariants.{Light, Heavy}
@@ -30,6 +31,19 @@ beyond_later d b end queue positive within later u x queued =
       | inl less ↦ less
       | inr low ↦ absurd (omega (arith, div-le_div x end d positive low, later u x queued, within))
     ]
+
+-- where nothing is queued, nothing is before an end
+pub beyond_over : (end : Option ℕ) (queue : Entries) → queue ≡ empty → IsBeyond end queue
+beyond_over None queue none = none
+beyond_over (Some e) queue none u x has = absurd (let no : None ≡ Some x = sym (ap (λ (m : Entries). get m u) none ∙ get-empty nat_cmp u) ∙ has in let absurdity : ⊥ = cc in absurdity)
+
+-- by a test whether a node's value is in a bucket or an earlier one
+pub beyond_within : (t : List (Option ℕ)) (queue : Entries) (v delta width b : ℕ) (within : Bool) → 1 ≤ delta → width ≡ delta → MatchOption (value_at t v) (within ≡ false) (λ value. IsTrue within ↔ (value / width ≤ b)) → within ≡ true → AreLater delta b queue → IsBeyond (value_at t v) queue
+beyond_within t queue v delta width b within positive same test passed later =
+    elim (value_at t v) as (λ o. MatchOption o (within ≡ false) (λ value. IsTrue within ↔ (value / width ≤ b)) → IsBeyond o queue) [
+      | None ↦ λ no. absurd (let absurdity : ⊥ = cc in absurdity)
+      | Some value ↦ λ here. beyond_later delta b value queue positive (subst (λ w. value / w ≤ b) same (here.0 passed)) later
+    ] test
 
 -- a node has one distance
 pub Least-once : (net : Net) (s t d e : ℕ) → Least net s t d → Least net s t e → d ≡ e
@@ -95,6 +109,14 @@ module _ (net : Net) (groups : Groups) (snapshot : IsSnapshotOf net groups) (gro
     right = λ u d has within. (node_of_value u d has, entry_least net source u d (value_at t u) (entry_of_final net groups snapshot grouped source t queue u low high between (final_within end u d beyond has within)) has);
     each = λ u d node least within. value_within end u d beyond least within;
   }
+
+-- what is known of the target is its distance
+pub IsDistance-known : (net : Net) (source target : ℕ) (t : List (Option ℕ)) → IsKnownTo net source target t → IsDistance net source target (value_at t target)
+IsDistance-known net source target t known = of (value_at t target) refl known
+  where
+    of : (o : Option ℕ) → value_at t target ≡ o → MatchOption o (NoWalk net source target) (λ far. AreFinal net source (Some far) t) → IsDistance net source target o
+    of None e none = none
+    of (Some far) e final = (final.right target far e (le_refl far)).1
 
 -- all entries of a row are final
 pub AreFinal-row : (net : Net) (source : ℕ) (row : List (Option ℕ)) → RowOf net source row → AreFinal net source None (None ∷ row)

@@ -1,5 +1,5 @@
 -- From relaxed legs to least lengths, and from trips to walks.
-use Rattle.std.proofs.Common.{◌≡◌, ℕ, zero, suc, ◌+◌, ◌*◌, ◌/◌, ◌<◌, ◌≤◌, List, [], ◌∷◌, length, filter, Contains, Option, Some, None, Bool, true, false, cond, ◌&&◌, ◌==◌, refl, sym, ap, subst, ◌∙◌, inl, inr, arith, unwrap_or, eqb, eqb-true, ne_eqb, eq-eqb, le_refl, slice_get, MatchOption, nat_le, not, get_or, IsSome, IsTrue, ◌↔◌}
+use Rattle.std.proofs.Common.{◌≡◌, ℕ, zero, suc, ◌+◌, ◌*◌, ◌<◌, ◌≤◌, List, [], ◌∷◌, length, filter, Contains, Option, Some, None, Bool, true, false, cond, ◌&&◌, ◌==◌, refl, sym, ap, subst, ◌∙◌, inl, inr, arith, unwrap_or, eqb, eqb-true, ne_eqb, eq-eqb, le_refl, slice_get, MatchOption, nat_le, not, get_or, IsSome}
 use Rattle.relax.specs.Values.{value_at, value_or}
 use Rattle.std.specs.Option.{option_map_or}
 use Rattle.std.specs.List.{IsDistinct, AllByRecursion}
@@ -7,11 +7,9 @@ use Rattle.std.proofs.lemmas.List.Sums.{sum_by-cons}
 use Rattle.std.proofs.lemmas.Map.Steps.{length-le_from_distinct_below}
 use Rattle.std.proofs.lemmas.Map.Views.{Contains-from_any}
 use Rattle.snapshot.specs.Groups.{Groups, legs_of, legs_in, leg_of, is_in_part, IsSnapshotOf, IsGrouped}
-use Rattle.deltastep.specs.Search.{top_of, Trip, trip_length, AreReached, IsRelaxedBut, IsBetweenBuckets, IsSearch, IsFinal, AreLater}
+use Rattle.deltastep.specs.Search.{top_of, Trip, trip_length, AreReached, IsRelaxedBut, IsBetweenBuckets, IsSearch, IsFinal}
 use Rattle.std.specs.FinMap.{empty, get, get-empty}
 use Rattle.buckets.specs.Queue.{Entries}
-use Rattle.deltastep.proofs.Division.{div-le_div}
-use Rattle.std.proofs.lemmas.Bool.{cases_lt}
 use Rattle.std.specs.Ordering.{nat_cmp}
 use Rattle.roadnet.specs.Net.{Net, arc_at}
 use Rattle.roadnet.specs.Walks.{Walk, Least, NoWalk, RowOf, length_of, length_of_arc, distance_at}
@@ -248,22 +246,6 @@ module _ (net : Net) (groups : Groups) (snapshot : IsSnapshotOf net groups) (gro
 pub IsFinal-over : (groups : Groups) (t : List (Option ℕ)) (queue : Entries) (v : ℕ) → queue ≡ empty → IsFinal groups t queue v
 IsFinal-over groups t queue v none u x has =
     absurd (let no : None ≡ Some x = sym (ap (λ (m : Entries). get m u) none ∙ get-empty nat_cmp u) ∙ has in let absurdity : ⊥ = cc in absurdity)
-
--- where all that is queued is in buckets after that of a node, its value is final
-pub IsFinal-later : (groups : Groups) (t : List (Option ℕ)) (queue : Entries) (v value b : ℕ) → 1 ≤ groups.delta → value_at t v ≡ Some value → value / groups.delta ≤ b → AreLater groups.delta b queue → IsFinal groups t queue v
-IsFinal-later groups t queue v value b positive has within later u x queued =
-    elim (cases_lt x value) as (λ _. value_or (top_of groups) t v ≤ x) [
-      | inl less ↦ absurd (omega (arith, div-le_div x value groups.delta positive (omega (arith, less)), later u x queued, within))
-      | inr low ↦ omega (arith, low, value_or-some (top_of groups) t v value has)
-    ]
-
--- .. by a test whether its value is in the bucket or an earlier one
-pub IsFinal-within : (groups : Groups) (t : List (Option ℕ)) (queue : Entries) (v width b : ℕ) (within : Bool) → IsGrouped groups → width ≡ groups.delta → MatchOption (value_at t v) (within ≡ false) (λ value. IsTrue within ↔ (value / width ≤ b)) → within ≡ true → AreLater groups.delta b queue → IsFinal groups t queue v
-IsFinal-within groups t queue v width b within grouped same test passed later =
-    elim (value_at t v) as (λ o. value_at t v ≡ o → MatchOption o (within ≡ false) (λ value. IsTrue within ↔ (value / width ≤ b)) → IsFinal groups t queue v) [
-      | None ↦ λ none no. absurd (let absurdity : ⊥ = cc in absurdity)
-      | Some value ↦ λ some here. IsFinal-later groups t queue v value b grouped.delta some (subst (λ w. value / w ≤ b) same (here.0 passed)) later
-    ] refl test
 
 unwrap_at : (row : List (Option ℕ)) (k : ℕ) → unwrap_or (slice_get row k) None ≡ get_or row k None
 unwrap_at [] k = refl

@@ -1,22 +1,23 @@
 -- A search over legs that were narrowed is one over those from which they were.
-use Rattle.std.proofs.Common.{◌≡◌, ℕ, ◌+◌, ◌-◌, ◌*◌, ◌/◌, ◌^◌, ◌<◌, ◌≤◌, ◌⊎◌, List, [], ◌∷◌, length, Contains, Option, None, IsSome, refl, sym, ap, subst, ◌∙◌, inl, inr, ⊎_elim, arith}
+use Rattle.std.proofs.Common.{◌≡◌, ℕ, ◌+◌, ◌-◌, ◌*◌, ◌/◌, ◌^◌, ◌<◌, ◌≤◌, ◌⊎◌, List, [], ◌∷◌, Contains, Option, None, Some, IsSome, MatchOption, refl, ap, subst, ◌∙◌, inl, inr, ⊎_elim, arith}
 use Rattle.std.specs.FinMap.{get, empty}
 use Rattle.std.proofs.Math.Nat.{div-le_of_le-mul, mul-add, mul-le-mul_right}
-use Rattle.roadnet.specs.Net.{Net}
-use Rattle.roadnet.specs.Walks.{RowOf}
-use Rattle.snapshot.specs.Groups.{Groups, HasLeg, IsGrouped, IsNarrowed, IsSnapshotOf, legs_of}
+use Rattle.roadnet.specs.Net.{Net, IsNode}
+use Rattle.roadnet.specs.Walks.{NoWalk, RowOf}
+use Rattle.snapshot.specs.Groups.{Groups, IsGrouped, IsNarrowed, IsSnapshotOf}
+use Rattle.snapshot.proofs.Narrowing.{LegOf, LegOf-narrow, LegOf-wide}
 use Rattle.snapshot.specs.declared.legs.Leg.{Leg}
 use Rattle.snapshot.specs.declared.legs.Part.{Part}
 use Rattle.snapshot.specs.declared.legs.Part.TheVariants.{Light, Heavy}
 use Rattle.relax.specs.Values.{value_at, value_or}
 use Rattle.buckets.specs.Queue.{Entries}
-use Rattle.deltastep.specs.Search.{IsBetweenBuckets, IsFinal, IsNarrowedOf, IsRelaxed, IsRelaxedBut, Suits, Trip, ring_buckets, top_of}
-use Rattle.deltastep.specs.Reach.{IsBeyond, Knows}
+use Rattle.deltastep.specs.Search.{IsBetweenBuckets, IsNarrowedOf, IsRelaxed, IsRelaxedBut, Suits, Trip, ring_buckets, top_of}
+use Rattle.deltastep.specs.Reach.{AreFinal, IsBeyond, IsDistance, IsKnownTo, Knows}
 use Rattle.deltastep.proofs.Ending.{AreFinal-beyond}
 use Rattle.deltastep.proofs.Finishing.{IsFinal-over, RowOf-over, entry_of_final}
 
 pub IsNarrowed-self : (groups : Groups) → IsNarrowed groups groups
-IsNarrowed-self groups = record { nodes = refl; delta = omega arith; greatest = refl; of_wide = λ u leg h. h; of_narrow = λ u leg h. h }
+IsNarrowed-self groups = record { nodes = refl; delta = omega arith; greatest = refl; legs = λ u. refl }
 
 pub IsNarrowedOf-of : (net : Net) (wide narrow : Groups) → IsGrouped wide → IsNarrowed wide narrow → IsSnapshotOf net wide → IsNarrowedOf net narrow
 IsNarrowedOf-of net wide narrow grouped is snapshot = record { wide = wide; grouped = grouped; snapshot = snapshot; narrowed = is }
@@ -28,11 +29,11 @@ module _ (wide narrow : Groups) (is : IsNarrowed wide narrow) where
 
   Trip-wide : (s t : ℕ) (legs : List Leg) → Trip narrow s t legs → Trip wide s t legs
   Trip-wide s t [] trip = trip
-  Trip-wide s t (leg ∷ legs) (part, c, trip) = let there : HasLeg wide s leg = is.of_wide s leg (record { part = part; among = c }) in (there.part, there.among, Trip-wide leg.head t legs trip)
+  Trip-wide s t (leg ∷ legs) (part, c, trip) = let there : LegOf wide s leg = LegOf-wide wide narrow is s leg part c in (there.part, there.among, Trip-wide leg.head t legs trip)
 
   IsRelaxed-wide : (part : Part) (t : List (Option ℕ)) (u : ℕ) → ((p : Part) → IsRelaxed narrow p t u) → IsRelaxed wide part t u
   IsRelaxed-wide part t u relaxed leg c =
-      let there : HasLeg narrow u leg = is.of_narrow u leg (record { part = part; among = c }) in
+      let there : LegOf narrow u leg = LegOf-narrow wide narrow is u leg part c in
       subst (λ (top : ℕ). value_or top t leg.head ≤ value_or top t u + leg.length) top_is (relaxed there.part leg there.among)
 
   both : (t : List (Option ℕ)) (u : ℕ) → IsRelaxed narrow Light t u → IsRelaxed narrow Heavy t u → (p : Part) → IsRelaxed narrow p t u
@@ -72,9 +73,6 @@ module _ (wide narrow : Groups) (is : IsNarrowed wide narrow) where
     heavy = IsRelaxedBut-wide Heavy t queue between.light between.heavy;
   }
 
-  pub IsFinal-wide : (t : List (Option ℕ)) (queue : Entries) (v : ℕ) → IsFinal narrow t queue v → IsFinal wide t queue v
-  IsFinal-wide t queue v final u x e = subst (λ (top : ℕ). value_or top t v ≤ x) top_is (final u x e)
-
 -- a search that is over leaves the row of its source
 pub RowOf-narrowed : (net : Net) (groups : Groups) → IsNarrowedOf net groups → (source : ℕ) (t row : List (Option ℕ)) → 1 ≤ source → source ≤ groups.nodes → IsBetweenBuckets groups source t empty → t ≡ None ∷ row → RowOf net source row
 RowOf-narrowed net groups of source t row low high over is =
@@ -89,6 +87,19 @@ knows_narrowed net groups of source low high t queue between end beyond =
       final = AreFinal-beyond net of.wide of.snapshot of.grouped source low inside t queue wide end beyond;
       over = λ none target node. entry_of_final net of.wide of.snapshot of.grouped source t queue target low inside wide (IsFinal-over of.wide t queue target (subst (λ (e : Option ℕ). IsBeyond e queue) none beyond));
     }
+
+-- .. and one that ends before what is queued behind the target knows the target
+pub known_narrowed : (net : Net) (groups : Groups) → IsNarrowedOf net groups → (source target : ℕ) → (1 ≤ source) × (source ≤ groups.nodes) → (1 ≤ target) × (target ≤ groups.nodes) → (t : List (Option ℕ)) (queue : Entries) → IsBetweenBuckets groups source t queue → IsBeyond (value_at t target) queue → IsKnownTo net source target t
+known_narrowed net groups of source target from to t queue between beyond =
+    let knows = knows_narrowed net groups of source from.0 from.1 t queue between (value_at t target) beyond in
+    by (value_at t target) refl knows.final
+  where
+    node : IsNode net target
+    node = (to.0, omega (arith, to.1, of.narrowed.nodes, of.snapshot.nodes))
+
+    by : (o : Option ℕ) → value_at t target ≡ o → AreFinal net source o t → MatchOption o (NoWalk net source target) (λ far. AreFinal net source (Some far) t)
+    by None e final = subst (λ (o : Option ℕ). IsDistance net source target o) e ((knows_narrowed net groups of source from.0 from.1 t queue between (value_at t target) beyond).over e target node)
+    by (Some far) e final = final
 
 -- ---- a frontier in which all buckets fit
 

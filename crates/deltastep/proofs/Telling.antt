@@ -1,16 +1,16 @@
 -- What lists of nodes with their distances say of the nodes within a limit, and of the nearest.
-use Rattle.std.proofs.Common.{◌≡◌, ℕ, zero, suc, ◌+◌, ◌-◌, ◌<◌, ◌≤◌, ◌⊎◌, ◌≢◌, ◌↔◌, min, Bool, true, false, cond, eqb, List, [], ◌∷◌, ◌++◌, length, map, filter, take, drop, count_by, All, Contains, Option, Some, None, IfSome, MatchOption, get_or, refl, sym, ap, subst, ◌∙◌, inl, inr, arith, le-leb, leb-true}
+use Rattle.std.proofs.Common.{◌≡◌, ℕ, zero, suc, ◌+◌, ◌-◌, ◌<◌, ◌≤◌, ◌⊎◌, ◌≢◌, ◌↔◌, min, Bool, true, false, cond, eqb, List, [], ◌∷◌, ◌++◌, length, map, filter, take, drop, count_by, Contains, Option, Some, None, IfSome, get_or, refl, sym, ap, subst, ◌∙◌, inl, inr, arith, le-leb, leb-true}
 use Rattle.std.specs.List.{AllByRecursion, IsDistinct}
 use Rattle.std.specs.List.Retain.{DiffersFromLast, IsFiltered}
 use Rattle.std.specs.List.Sorted.{IsPermutation, IsSorted, IsStrictlyIncreasing, IsStrictlySortedBy}
-use Rattle.std.specs.Cmp.{IsTotalOrder, nat_cmp_total, nat_cmp_is, unsigned_tied, eq_by_cmp_equiv}
+use Rattle.std.specs.Cmp.{IsTotalOrder, nat_cmp_total, nat_cmp_is, eq_by_cmp_equiv}
 use Rattle.std.specs.Ordering.{eq_by_cmp, is_eq, is_lt, nat_cmp, ordering_reverse, ordering_then}
 use Rattle.std.specs.declared.cmp.Ordering.{Ordering}
 use Rattle.std.specs.declared.cmp.Ordering.TheVariants.{Less, Equal, Greater}
 use Rattle.std.proofs.lemmas.Bool.{cases_eq, cases_lt}
 use Rattle.std.proofs.lemmas.Cmp.{on_total, then_total}
 use Rattle.std.proofs.lemmas.List.{append-nil, length-drop, length-map, length-take, take-append-drop}
-use Rattle.std.proofs.lemmas.List.Elements.{All-contains, All-nil, All-push, Contains-append_cases, Contains-append_left, Contains-append_right, Contains-get_or, Contains-push, Contains-push_cases}
+use Rattle.std.proofs.lemmas.List.Elements.{All-contains, Contains-append_cases, Contains-append_left, Contains-append_right, Contains-get_or, Contains-push, Contains-push_cases}
 use Rattle.std.proofs.lemmas.List.Filters.{dedup_is}
 use Rattle.std.proofs.lemmas.List.Kept.{Contains-dedup_nat, Contains-from_dedup, IsStrictlyIncreasing-filter}
 use Rattle.std.proofs.lemmas.List.Sorted.{Contains-permutation, IsPermutation-sym, length_permutation}
@@ -20,13 +20,13 @@ use Rattle.std.proofs.lemmas.Map.Views.{All-after_first}
 use Rattle.relax.specs.Noted.{AreNoted}
 use Rattle.relax.specs.Values.{value_at, value_or}
 use Rattle.roadnet.specs.Net.{Net, IsNode}
-use Rattle.roadnet.specs.Walks.{Least, NoWalk}
-use Rattle.deltastep.specs.Reach.{AreAllWithin, AreAmong, AreEnough, AreFinal, AreNearest, ArePlaces, AreWithin, ComeBefore, IsDistance, IsKnownTo, IsReach, IsWithin, Knows, has_within, is_within, nearer_first, told_as, told_of}
+use Rattle.roadnet.specs.Walks.{Least}
+use Rattle.deltastep.specs.Reach.{AreAllWithin, AreEnough, AreFinal, AreNearest, ArePlaces, ComeBefore, IsReach, IsWithin, has_within, is_within, nearer_first, told_as, told_of}
 use Rattle.deltastep.specs.declared.known.NodeDistance.{NodeDistance}
 use Rattle.deltastep.proofs.Ending.{Least-once, value_below}
 use Rattle.deltastep.proofs.Finishing.{Contains-filter, Contains-of_filter}
 use Rattle.deltastep.proofs.Lowering.{value_or-some}
-use Rattle.frontier.proofs.Members.{Contains-head, Contains-map, Contains-nil, Contains-of_map, Contains-tail}
+use Rattle.frontier.proofs.Members.{Contains-map, Contains-nil, Contains-of_map}
 
 -- ---- nodes that have values
 
@@ -333,36 +333,3 @@ module _ (net : Net) (source : ℕ) (among : List ℕ) (count : ℕ) (end : Opti
       | inr far ↦ inr (far_after x d far.0 c least far.1 far.2)
     ];
   }
-
--- a node alone
-pub one_among : (places node : ℕ) → 1 ≤ node → node < places → AreAmong places (node ∷ [])
-one_among places node low high = record {
-  nodes = All-push (λ u. (1 ≤ u) × (u < places)) [] node (All-nil (λ u. (1 ≤ u) × (u < places))) (low, high);
-  ascending = λ k within. absurd (omega (arith, within));
-}
-
--- values that are final up to a length are final up to a shorter one
-shorter_end : (net : Net) (source far : ℕ) (end : Option ℕ) (t : List (Option ℕ)) → IsWithin end far → AreFinal net source end t → AreFinal net source (Some far) t
-shorter_end net source far end t near final = record {
-  places = final.places;
-  right = λ u d has within. final.right u d has (within_further end far d near within);
-  each = λ u d node least within. final.each u d node least (within_further end far d near within);
-}
-
--- if the one node that is asked for has its value, or nothing is queued any more, all is known up to that node
-pub known_to : (net : Net) (source target : ℕ) (end : Option ℕ) (t : List (Option ℕ)) → Knows net source end t → IfSome end (AreEnough t (target ∷ []) 1) → IsNode net target → IsKnownTo net source target t
-known_to net source target None t knows enough node = by (value_at t target) (knows.over refl target node)
-  where
-    by : (o : Option ℕ) → IsDistance net source target o → MatchOption o (NoWalk net source target) (λ far. AreFinal net source (Some far) t)
-    by None none = none
-    by (Some far) least = shorter_end net source far None t tt knows.final
-known_to net source target (Some end) t knows enough node =
-    let has = value_of_has t (Some end) target (one_has (has_within t (Some end) target) (omega (arith, some, sum_by-cons (λ u. cond (has_within t (Some end) u) 1 0) target []))) in
-    subst (λ (o : Option ℕ). MatchOption o (NoWalk net source target) (λ far. AreFinal net source (Some far) t)) (sym has.1) (shorter_end net source has.0 (Some end) t has.2 knows.final)
-  where
-    some : 1 ≤ count_by (has_within t (Some end)) (target ∷ [])
-    some = enough
-
-    one_has : (b : Bool) → 1 ≤ cond b 1 0 → b ≡ true
-    one_has true h = refl
-    one_has false h = absurd (omega arith)

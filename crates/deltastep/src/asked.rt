@@ -143,7 +143,7 @@ fn values_over<A: Asked, T: Team>(
 
 /// The search for an answer around `source`, whatever the workspace holds: up to which length the values are final, or all of them if there is no end,
 /// and the values. The search uses the workspace's values and its queue, and leaves it a queue.
-pub(crate) fn values_for<A: Asked, T: Team>(
+fn values_for<A: Asked, T: Team>(
     alloc: Global,
     snapshot: &Snapshot,
     source: u32,

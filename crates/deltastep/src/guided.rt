@@ -6,7 +6,7 @@ ghost use Rattle.relax.specs.Values.{value_at, value_or};
 ghost use Rattle.roadnet.specs.Net.{Net};
 ghost use Rattle.snapshot.specs.Groups.{Groups, IsGrouped, IsSnapshotOf};
 ghost use Rattle.snapshot.specs.declared.legs.Part.{Part};
-ghost use Rattle.deltastep.specs.Search.{IsBetweenBuckets};
+ghost use Rattle.deltastep.specs.Search.{IsBetweenBuckets, most_lists};
 ghost use Rattle.deltastep.specs.Guided.{ConsistentIsLowerBound, GoesOn, IsBest, IsDone, IsGuided, IsKey, IsLowerBound, KeyStaysBelow, EndsReached};
 ghost use Rattle.deltastep.specs.Stepping.{LowersByKey};
 ghost use Rattle.deltastep.specs.Reach.{IsDistance};
@@ -73,6 +73,19 @@ fn width_of_keys(snapshot: &Snapshot) -> u32
 {
     let widest = (snapshot.delta() / 8).max(1);
     1 << widest.ilog2()
+}
+
+/// How many buckets of keys a ring gets, at least so many: those of twice the greatest length, by which a key may grow at an arc, if a ring may have so many.
+fn lists_of_keys(snapshot: &Snapshot, width: u32, least: u32) -> u32
+    requires positive { 1 ≤ width }
+    ensures some { 1 ≤ least → 1 ≤ result }
+    ensures few { least ≤ most_lists → result ≤ most_lists }
+{
+    let keys = u64::from(snapshot.greatest()) * 2 / u64::from(width) + 2;
+    if keys <= 65536 {
+        return least.max(keys as u32);
+    }
+    least.max(65536)
 }
 
 /// A search by keys under way: the least value found so far for each node, and the nodes whose legs are still to be relaxed, in buckets by key.
@@ -367,7 +380,8 @@ pub fn values_guided_in<G: Guide>(
         )?;
         return Ok(values);
     };
-    let queue = workspace.take_queue(alloc, delta, size)?;
+    let lists = lists_of_keys(snapshot, delta, size);
+    let queue = workspace.take_queue(alloc, delta, lists)?;
     let (values, mut queue) = guided_by(alloc, snapshot, source, target, guide, values, queue)?;
     if drain(alloc, &mut queue).is_ok() {
         workspace.keep_queue(queue);

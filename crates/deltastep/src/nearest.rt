@@ -5,16 +5,15 @@ ghost use Rattle.std.specs.List.Sorted.{IsStrictlyIncreasing};
 ghost use Rattle.roadnet.specs.Net.{Net};
 ghost use Rattle.roadnet.specs.Walks.{RowOf};
 ghost use Rattle.snapshot.specs.Groups.{IsSnapshotOf};
-ghost use Rattle.deltastep.specs.Reach.{AreFinal, AreNearest, ArePlaces, AreEnough, AreAmong, IsKnownTo, has_within};
+ghost use Rattle.deltastep.specs.Reach.{AreFinal, AreNearest, ArePlaces, AreEnough, AreAmong, has_within};
 
-use crate::asked::{Asked, answer_in, values_for};
+use crate::asked::{Asked, answer_in};
 use crate::distances::{Distances, RowError};
 use crate::known::{Known, NodeDistance, is_known, known_among, told};
 use crate::workspace::Workspace;
 use relax::{Team, Tentative};
 use snapshot::Snapshot;
 use std::alloc::Global;
-use std::array::from_ref;
 
 /// How many of these nodes have values up to the end.
 fn count_known(values: &Tentative, among: &[u32], end: u64) -> usize
@@ -102,31 +101,6 @@ pub fn nearest_in<T: Team>(
 {
     let asked = Nearest { among, count };
     answer_in(alloc, snapshot, source, &asked, team, workspace)
-}
-
-/// The values of a search from `source` that ends as soon as the value of `target` is final: up to the target's they are the distances, and if no walk leads
-/// to the target, it has none. Its only error is lack of memory.
-///
-/// The search is that of `nearest_in`. Its values are taken out of the workspace, and `keep_values` puts them back.
-///
-/// In the network of `examples/six.gr`, from 1 to 5 it gives 0, 10, 10 and 10 for 1, 2, 3 and 5.
-pub fn values_to_in<T: Team>(
-    alloc: Global,
-    snapshot: &Snapshot,
-    source: u32,
-    target: u32,
-    team: &T,
-    workspace: &mut Workspace,
-) -> Result<Tentative, RowError>
-    requires source { (1 ≤ source) × (source ≤ snapshot.now.nodes) }
-    requires target { (1 ≤ target) × (target ≤ snapshot.now.nodes) }
-    ensures places { IfOk result (λ values. length values ≡ snapshot.now.nodes + 1) }
-    ensures known { IfOk result (λ values. (net : Net) → IsSnapshotOf net snapshot.now → IsKnownTo net source target values) }
-{
-    let among = from_ref(&target);
-    let asked = Nearest { among, count: 1 };
-    let over = values_for(alloc, snapshot, source, &asked, team, workspace)?;
-    Ok(over.1)
 }
 
 /// The nodes of `nearest_in`, from the row of the source. Its only error is lack of memory, for 20 bytes for each of the nodes.

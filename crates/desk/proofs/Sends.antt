@@ -63,14 +63,6 @@ office_send N n D d t s = view_send _ _ _ _ _ (office_inside N n D d t s)
 held_send : (O : RattleType) → IsSend O → IsSend (Held.the_row O)
 held_send O s = search (sendable, crosses) depth 20
 
-ruleset locked = (office_send, held_send)
-
-pub shared_send : (S N : RattleType) (n : NamingGhosts N.Denot) (D : RattleType) (d : DiskGhosts D.Denot) (G R : RattleType) → IsSend N → IsSend D → IsSend G → IsSend (Shared.the_row S N D G R n d)
-shared_send S N n D d G R t u v = search (locked, sendable, crosses) depth 20
-
-pub shared_sync : (S N : RattleType) (n : NamingGhosts N.Denot) (D : RattleType) (d : DiskGhosts D.Denot) (G R : RattleType) → IsSend N → IsSend D → IsSync G → IsSync (Shared.the_row S N D G R n d)
-shared_sync S N n D d G R t u v = search (locked, sendable, crosses) depth 20
-
 ruleset shelved = (Rows.the_send, Workspaces.the_send, Fronts.the_send, Snapshots.the_send, Snapshots.the_sync)
 
 shelf_inside : (N : RattleType) (n : NamingGhosts N.Denot) → IsSend N → IsSend (ShelfInside.the_row N n)
@@ -79,7 +71,15 @@ shelf_inside N n t = search (shelved, sendable, crosses) depth 20
 shelf_send : (N : RattleType) (n : NamingGhosts N.Denot) → IsSend N → IsSend (Shelf.the_row N n)
 shelf_send N n t = view_send _ _ _ _ _ (shelf_inside N n t)
 
-ruleset shared = (shared_send, shared_sync, shelf_send)
+ruleset locked = (office_send, held_send, shelf_send)
+
+pub shared_send : (S N : RattleType) (n : NamingGhosts N.Denot) (D : RattleType) (d : DiskGhosts D.Denot) (G R : RattleType) → IsSend N → IsSend D → IsSend G → IsSend (Shared.the_row S N D G R n d)
+shared_send S N n D d G R t u v = search (locked, sendable, crosses) depth 20
+
+pub shared_sync : (S N : RattleType) (n : NamingGhosts N.Denot) (D : RattleType) (d : DiskGhosts D.Denot) (G R : RattleType) → IsSend N → IsSend D → IsSync G → IsSync (Shared.the_row S N D G R n d)
+shared_sync S N n D d G R t u v = search (locked, sendable, crosses) depth 20
+
+ruleset shared = (shared_send, shared_sync)
 
 pub handle_sync : (S N : RattleType) (n : NamingGhosts N.Denot) (D : RattleType) (d : DiskGhosts D.Denot) (G R : RattleType) → IsSend N → IsSend D → IsSend G → IsSync G → IsSync R → IsSync (Handle.the_row S N D G R n d)
 handle_sync S N n D d G R s t u v w = search (shared, sendable, crosses) depth 20

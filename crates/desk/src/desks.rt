@@ -21,7 +21,7 @@ use roadnet::Refusal;
 use rows::Ran;
 use std::alloc::Global;
 use std::ops::Deref;
-use std::sync::{Arc, Mutex};
+use std::sync::Arc;
 use std::time::{Duration, Instant};
 use store::Store;
 
@@ -144,10 +144,10 @@ impl<S: ServedApart> Desk<S> {
         let Ok(office) = Office::new(&rt, alloc, history, store, view) else {
             return Err(Refusal::OutOfMemory);
         };
-        let Ok(shared) = Arc::new(alloc, Shared::new(office, gate)) else {
+        let Ok(shelf) = Shelf::new(alloc) else {
             return Err(Refusal::OutOfMemory);
         };
-        let Ok(rows) = Arc::new(alloc, Mutex::new(Shelf::new(alloc)?)) else {
+        let Ok(shared) = Arc::new(alloc, Shared::new(office, shelf, gate)) else {
             return Err(Refusal::OutOfMemory);
         };
         let threads = start_both(rt, &shared, plan)?;
@@ -156,7 +156,6 @@ impl<S: ServedApart> Desk<S> {
                 rt,
                 alloc,
                 shared,
-                rows,
                 patience: setup.patience,
                 since: Instant::now(&rt).ok(),
                 pairs: setup.pairs,
@@ -206,7 +205,6 @@ impl<S: Served> Desk<S> {
             rt,
             alloc: _,
             shared,
-            rows: _,
             patience: _,
             since: _,
             pairs: _,

@@ -1,4 +1,1 @@
-pub mod Copied
-pub mod Deeds
-pub mod Doors
 pub mod Failures

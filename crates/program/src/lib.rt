@@ -13,18 +13,12 @@ ghost use Rattle.words.specs.Pipes.{AreFit};
 ghost use Rattle.words.specs.Words.{IsJournal, IsWorkers, delta_of, journal_of, pipes_of, workers_of};
 
 mod bounds;
-mod copies;
-mod deeds;
-mod doors;
-mod pipes;
 mod running;
 mod serve_jobs;
 mod server_life;
 mod standings;
 
 pub use bounds::ServerRuntime;
-pub use copies::copy_store;
-pub use doors::{FileNames, doors_of, see_pipes};
 use file_jobs::{
     Streams, ended, hold_streams, job_status, show_usage, tell_cause, tell_failure, text_name,
     without_words,
@@ -38,8 +32,9 @@ use roadnet::Refusal;
 pub use running::run;
 pub use scripts::parse_script;
 pub use serve_jobs::{Teller, serve_disk};
+pub use server_files::{FileNames, Visits, copy_store, doors_of, see_pipes};
 pub use sessions::serve;
-pub use standings::{Standing, Visits};
+pub use standings::Standing;
 use std::env;
 use std::fs::File;
 use std::rt::{Env, Files};

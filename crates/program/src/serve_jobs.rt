@@ -18,14 +18,12 @@ ghost use Rattle.storetexts.specs.Asked.{IsUnopened};
 ghost use Rattle.session_lines.specs.declared.reading.LastLine.TheVariants.{Taken};
 ghost use Rattle.sessions.specs.Told.{CountsRead};
 ghost use Rattle.sessions.specs.Turns.{Serves, IsKept};
-ghost use Rattle.program.specs.Copied.{copies_in};
+ghost use Rattle.server_files.specs.Copied.{copies_in};
 ghost use Rattle.program.specs.Failures.{server_outcome};
 ghost use Rattle.words.specs.Pipes.{AreFit};
 ghost use Rattle.words.specs.Words.{IsWorkers};
 
 use crate::bounds::ServerRuntime;
-use crate::copies::{FileCopies, see_folder};
-use crate::doors::{Doors, FileNames, PipeDoor, SeenPipes, doors_of, see_pipes};
 use crate::server_life::{is_spent, start_watching};
 use crate::standings::start_telling;
 use desk::{Closed, Desk, Gate, Handle, History, Naming, Over, Served, ServedApart, Setup};
@@ -36,6 +34,9 @@ use filedisk::FileLock;
 use printing::{CountedWriter, Done, Failed};
 use progress::Progress;
 use roadnet::Refusal;
+use server_files::{
+    Doors, FileCopies, FileNames, PipeDoor, SeenPipes, doors_of, see_folder, see_pipes,
+};
 use sessions::{Answering, Copies, Door, LastLine, Started, Terms, Visits, serve, serve_door};
 use std::alloc::Global;
 use std::fs::File;

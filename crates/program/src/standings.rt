@@ -1,9 +1,9 @@
 //! Reports on a server on standard error, if `--verbose` asks for them.
-ghost use Rattle.std.specs.Prelude.{◌≡◌, ◌<◌, ◌+◌};
+ghost use Rattle.std.specs.Prelude.{◌≡◌};
 
 use desk::{DeskState, Handle, Served, Working};
+use server_files::{Guests, Visits};
 use sessions::let_go;
-use std::alloc::{AllocError, Global};
 use std::fmt::{self, Display};
 use std::sync::{Arc, Mutex, Wait};
 use std::thread;
@@ -12,82 +12,31 @@ use std::time::Duration;
 /// The least number of seconds between two lines.
 const APART: u64 = 1;
 
-/// How many clients came in through the doors of a server, and how many of them left.
-#[derive(Clone, Copy, Debug, PartialEq, Eq)]
-pub struct Visits {
-    pub came: u64,
-    pub went: u64,
-}
-
-impl Visits {
-    /// One more has come.
-    fn one_came(&mut self)
-        ensures came { self.old.came < 18446744073709551615 → self.new.came ≡ self.old.came + 1 }
-        ensures went { self.new.went ≡ self.old.went }
-    {
-        self.came = self.came.saturating_add(1);
-    }
-
-    /// One of them has left.
-    fn one_went(&mut self)
-        ensures went { self.old.went < 18446744073709551615 → self.new.went ≡ self.old.went + 1 }
-        ensures came { self.new.came ≡ self.old.came }
-    {
-        self.went = self.went.saturating_add(1);
-    }
-}
-
-/// The clients of a server, counted if their number is reported.
-#[derive(Drop)]
-pub struct Guests {
-    counted: Option<Arc<Mutex<Visits>>>,
-}
-
-impl Guests {
-    /// Nobody has come yet.
-    pub fn new(alloc: Global, are_told: bool) -> Result<Guests, AllocError> {
-        if !are_told {
-            return Ok(Guests { counted: None });
-        }
-        let none = Visits { came: 0, went: 0 };
-        let visits = Arc::new(alloc, Mutex::new(none))?;
-        Ok(Guests {
-            counted: Some(visits),
-        })
-    }
-
-    /// The same count, for another door.
-    pub fn again(&self) -> Result<Guests, AllocError> {
-        let Some(visits) = &self.counted else {
-            return Ok(Guests { counted: None });
-        };
-        let visits = Arc::try_clone(visits)?;
-        Ok(Guests {
-            counted: Some(visits),
-        })
-    }
-
-    /// One more has come.
-    pub fn one_came<R: Wait>(&self, rt: &R) {
-        if let Some(visits) = &self.counted {
-            visits.lock(rt).one_came();
-        }
-    }
-
-    /// One of them has left.
-    pub fn one_went<R: Wait>(&self, rt: &R) {
-        if let Some(visits) = &self.counted {
-            visits.lock(rt).one_went();
-        }
-    }
-}
-
-/// The state of a server, and who came and left until then. It is reported as `durable D, shown V`, the durable and the shown version; `, B behind`, if the
-/// latter is lower by B; `, C clients, N came, M went`, once one has come; and the report of a thread that has ended.
+/// What is reported of a server: `durable D, shown V`, the durable and the shown version; `, B behind`, if the latter is lower by B;
+/// `, C clients, N came, M went`, once one has come; and the report of a thread that has ended.
 #[derive(Clone, Copy, Debug, PartialEq, Eq)]
 pub struct Standing {
-    pub desk: DeskState,
+    pub durable: u64,
+    pub shown: u64,
+    pub flusher: Working,
+    pub builder: Working,
     pub visits: Visits,
+}
+
+impl Standing {
+    /// What is reported of a server whose desk is in this state, and of who came and left until then.
+    fn of(desk: &DeskState, visits: Visits) -> Standing
+        ensures desk { (result.durable ≡ desk.now.durable) × (result.shown ≡ desk.now.shown) × (result.flusher ≡ desk.now.flusher) × (result.builder ≡ desk.now.builder) }
+        ensures visits { result.visits ≡ visits }
+    {
+        Standing {
+            durable: desk.durable,
+            shown: desk.shown,
+            flusher: desk.flusher,
+            builder: desk.builder,
+            visits,
+        }
+    }
 }
 
 /// The report on a flusher that is not running.
@@ -109,10 +58,16 @@ fn told_of_builder(builder: Working) -> &'static str {
 
 impl Display for Standing {
     fn fmt<W: fmt::Write>(&self, f: &mut fmt::Formatter<W>) -> fmt::Result {
-        let Standing { desk, visits } = *self;
-        write!(f, "durable {}, shown {}", desk.durable, desk.shown)?;
-        if desk.shown < desk.durable {
-            write!(f, ", {} behind", desk.durable - desk.shown)?;
+        let Standing {
+            durable,
+            shown,
+            flusher,
+            builder,
+            visits,
+        } = *self;
+        write!(f, "durable {durable}, shown {shown}")?;
+        if shown < durable {
+            write!(f, ", {} behind", durable - shown)?;
         }
         if visits.came > 0 {
             let here = visits.came.saturating_sub(visits.went);
@@ -122,12 +77,12 @@ impl Display for Standing {
                 visits.came, visits.went
             )?;
         }
-        write!(f, "{}", told_of_flusher(desk.flusher))?;
-        write!(f, "{}", told_of_builder(desk.builder))
+        write!(f, "{}", told_of_flusher(flusher))?;
+        write!(f, "{}", told_of_builder(builder))
     }
 }
 
-/// Reports on a server, at once and then each second in which its state has changed, until its desk is closed.
+/// Reports on a server, at once and then each second in which what is reported has changed, until its desk is closed.
 fn tell_standings<S: Served>(rt: &S::Runtime, desk: &Handle<S>, visits: &Mutex<Visits>)
 where
     S::Runtime: Eprint,
@@ -137,10 +92,7 @@ where
         let Ok(state) = desk.state() else {
             return;
         };
-        let standing = Standing {
-            desk: state,
-            visits: *visits.lock(rt),
-        };
+        let standing = Standing::of(&state, *visits.lock(rt));
         if told != Some(standing) {
             let word = if told.is_none() { "ready, " } else { "" };
             let _ = eprintln!(rt; "note: {word}{standing}");

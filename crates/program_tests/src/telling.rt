@@ -1,42 +1,30 @@
 //! How a server is told to stand.
-use desk::{DeskState, Working};
+use desk::Working;
 use program::{Standing, Visits};
 use std::alloc::{AllocError, Global};
 use std::test::Fail;
 
-/// How a desk stands of which these versions are durable and shown, and whose threads go on so.
-fn stood(durable: u64, shown: u64, flusher: Working, builder: Working) -> DeskState {
-    DeskState {
-        shown,
+/// How a server stands of which these versions are durable and shown, and whose threads go on so.
+fn stood(durable: u64, shown: u64, flusher: Working, builder: Working) -> Standing {
+    Standing {
         durable,
-        accepted: durable,
-        pending: 0,
-        unchecked: 0,
-        pages: 64,
-        landmarks: 2,
-        left: 16777216,
-        readers: 1,
+        shown,
         flusher,
         builder,
-        arcs: 8,
-        room: 8,
-        clients: 0,
-        pairs: 0,
-        waiting: 0,
-        uptime: 0,
+        visits: Visits { came: 0, went: 0 },
     }
 }
 
 /// Whether a server is told to stand so, of which this many clients came and went.
 fn is_told(
     alloc: Global,
-    desk: DeskState,
+    standing: Standing,
     came: u64,
     went: u64,
     told: &str,
 ) -> Result<bool, AllocError> {
     let visits = Visits { came, went };
-    let line = format!(in alloc; "{}", Standing { desk, visits })?;
+    let line = format!(in alloc; "{}", Standing { visits, ..standing })?;
     Ok(line.as_str() == told)
 }
 

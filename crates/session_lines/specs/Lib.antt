@@ -8,3 +8,4 @@ pub mod SessionLines
 pub mod Judging
 pub mod Reads
 pub mod Drafts
+pub mod Copying

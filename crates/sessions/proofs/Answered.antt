@@ -29,7 +29,7 @@ use Rattle.sessions.specs.declared.session.sessions.Accepted.{Accepted}
 use Rattle.sessions.specs.declared.session.sessions.Accepted.TheVariants.{Settled, Unsettled}
 use Rattle.printing.specs.declared.looks.Look.{Look}
 use Rattle.printing.specs.Looks.{look_lines}
-use Rattle.sessions.specs.Copying.{Copying, IsUnmade}
+use Rattle.session_lines.specs.Copying.{Copying, IsUnmade}
 use Rattle.sessions.specs.declared.queries.finding.Heading.TheVariants.{Shown as of_shown}
 use Rattle.sessions.specs.Headings.{untold_lines}
 use Rattle.sessions.specs.Nearby.{IsNearAnswer, IsTableAnswer, IsToldAfter, near_lines}

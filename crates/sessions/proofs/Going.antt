@@ -14,7 +14,7 @@ use Rattle.session_lines.specs.declared.reading.LastLine.{LastLine}
 use Rattle.session_lines.specs.Reads.{ReadsOne, ReadsLine}
 use Rattle.session_lines.specs.SessionLines.{is_quit}
 use Rattle.sessions.specs.declared.session.sessions.Session.{Session}
-use Rattle.sessions.specs.Copying.{Copying}
+use Rattle.session_lines.specs.Copying.{Copying}
 use Rattle.sessions.specs.Saying.{IsKeptGroup, Says, state_of}
 use Rattle.sessions.specs.Told.{known_to}
 use Rattle.sessions.specs.Turns.{Standing, IsAnswer, IsTurn, AreTurns, SessionState, beginning, next_group, HasServed, IsSessionAt, Serves}

@@ -25,7 +25,7 @@ use Rattle.sessions.specs.declared.session.sessions.OpenGroup.{OpenGroup}
 use Rattle.sessions.specs.declared.session.sessions.Purpose.{Purpose}
 use Rattle.sessions.specs.declared.session.sessions.Purpose.TheVariants.{ToCarryOut}
 use Rattle.sessions.specs.declared.session.sessions.Session.{Session}
-use Rattle.sessions.specs.Copying.{Copying}
+use Rattle.session_lines.specs.Copying.{Copying}
 use Rattle.sessions.specs.Saying.{EndsSo, IsKeptGroup, PutsSo, Says, Stays, Tells, state_of}
 use Rattle.sessions.specs.Told.{Carried, HasMore, Settles, known_to}
 use Rattle.sessions.specs.Turns.{Grouped, IsAnswer, IsEnd, IsEndAnswer, IsGroupAnswer, Leaves, SessionState, asks_alone, fault_number, next_group}

@@ -35,7 +35,7 @@ use Rattle.session_lines.specs.Tables.{pairs_of}
 use Rattle.sessions.specs.declared.queries.finding.Heading.TheVariants.{Supposed as of_supposed}
 use Rattle.sessions.specs.declared.session.sessions.Purpose.TheVariants.{ToSuppose}
 use Rattle.sessions.specs.declared.session.sessions.Session.{Session}
-use Rattle.sessions.specs.Copying.{Copying, no_copying}
+use Rattle.session_lines.specs.Copying.{Copying, no_copying}
 use Rattle.sessions.specs.Headings.{supposed_line, untold_lines}
 use Rattle.sessions.specs.Nearby.{near_lines}
 use Rattle.sessions.specs.Saying.{EndsSo, Tells, state_of}

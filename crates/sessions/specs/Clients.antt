@@ -13,7 +13,7 @@ use Rattle.session_lines.specs.declared.reading.LastLine.TheVariants.{Dropped}
 use Rattle.sessions.specs.declared.clients.served.Finished.{Finished}
 use Rattle.sessions.specs.declared.clients.serving.Terms.{Terms}
 use Rattle.sessions.specs.declared.session.sessions.Session.{Session}
-use Rattle.sessions.specs.Copying.{Copying, copying_at}
+use Rattle.session_lines.specs.Copying.{Copying, copying_at}
 use Rattle.sessions.specs.Told.{CountsRead, IsOfStream}
 use Rattle.sessions.specs.Turns.{Serves, IsSessionAt}
 

@@ -1,4 +1,3 @@
-pub mod Copying
 pub mod Stated
 pub mod Told
 pub mod Headings

@@ -19,7 +19,7 @@ use Rattle.session_lines.specs.declared.lines.Line.{Line}
 use Rattle.session_lines.specs.Drafts.{Drafted, IsDraft}
 use Rattle.sessions.specs.declared.session.sessions.OpenGroup.{OpenGroup}
 use Rattle.sessions.specs.declared.session.sessions.Session.{Session}
-use Rattle.sessions.specs.Copying.{Copying}
+use Rattle.session_lines.specs.Copying.{Copying}
 use Rattle.sessions.specs.Told.{HasMore, known_to}
 use Rattle.sessions.specs.Turns.{Grouped, SessionState, IsAnswer, IsEnd, next_group}
 use Rattle.sessions.specs.declared.session.sessions.Purpose.{Purpose}

@@ -24,7 +24,7 @@ use Rattle.printing.specs.declared.failed.Failed.TheVariants.{Code}
 use lib.Chars.{codes}
 use Rattle.printing.specs.Printed.{refusal_line}
 use Rattle.printing.specs.Replied.{number_line}
-use Rattle.sessions.specs.Copying.{Copying, IsUnmade}
+use Rattle.session_lines.specs.Copying.{Copying, IsUnmade}
 use Rattle.sessions.specs.declared.session.sessions.Accepted.{Accepted}
 use Rattle.sessions.specs.declared.session.sessions.Accepted.TheVariants.{Settled, Unsettled}
 use Rattle.printing.specs.declared.looks.Look.{Look}

@@ -37,7 +37,7 @@ use Rattle.suppositions.specs.Supposing.{Supposition}
 use Rattle.sessions.specs.declared.session.sessions.Accepted.{Accepted}
 use Rattle.sessions.specs.declared.session.sessions.Purpose.{Purpose}
 use Rattle.sessions.specs.declared.session.sessions.Purpose.TheVariants.{ToCarryOut, ToSuppose}
-use Rattle.sessions.specs.Copying.{Copying}
+use Rattle.session_lines.specs.Copying.{Copying}
 use Rattle.sessions.specs.Nearby.{IsNearAnswer, IsTableAnswer, IsToldAfter}
 use Rattle.sessions.specs.Routed.{IsRouteAnswer, IsRouteIn}
 use Rattle.sessions.specs.Stated.{state_or_refusal}

@@ -2,15 +2,13 @@
 #![tactic(auto)]
 
 mod clients;
-mod copies;
 mod queries;
 mod session;
 mod told;
 
 pub use clients::answering::Answering;
-pub use clients::doors::{Door, Started, Visits, let_go, serve_door};
+pub use clients::doors::{Started, Visits, let_go, serve_door};
 pub use clients::past::Past;
 pub use clients::serving::{Terms, serve};
-pub use copies::{AskingAlone, Copies, NoCopies};
 pub use session::sessions::Session;
-pub use session_lines::LastLine;
+pub use session_lines::{AskingAlone, Copies, Door, LastLine, NoCopies};

@@ -1,10 +1,33 @@
 -- The same legs for narrower buckets, parted as they were or all of a node's in its light part.
-use Rattle.std.proofs.Common.{◌≡◌, ◌∙◌, ◌⊎◌, inl, inr, ℕ, zero, suc, ◌+◌, ◌-◌, ◌*◌, ◌≤◌, ◌<◌, Bool, true, false, List, [], ◌∷◌, ◌++◌, get_or, Contains, refl, sym, subst, ap₂, arith, append-nil, ⊎_elim}
+use Rattle.std.proofs.Common.{◌≡◌, ◌∙◌, ◌⊎◌, ℕ, zero, suc, ◌+◌, ◌-◌, ◌*◌, ◌≤◌, ◌<◌, Bool, true, false, List, [], ◌∷◌, ◌++◌, get_or, Contains, refl, sym, subst, ap₂, arith, append-nil, ⊎_elim}
 use Rattle.std.proofs.lemmas.List.Elements.{Contains-append_left, Contains-append_right, Contains-append_cases}
-use Rattle.snapshot.specs.Groups.{Groups, HasLeg, IsGrouped, IsNarrowed, joined, legs_of, parts_of, pieces}
+use Rattle.snapshot.specs.Groups.{Groups, IsGrouped, IsNarrowed, all_legs, joined, legs_of, parts_of, pieces}
 use Rattle.snapshot.specs.declared.legs.Leg.{Leg}
 use Rattle.snapshot.specs.declared.legs.Part.{Part}
 use Rattle.snapshot.specs.declared.legs.Part.TheVariants.{Light, Heavy}
+
+-- a leg of node u, of either part
+pub record LegOf (groups : Groups) (u : ℕ) (leg : Leg) : Type 0 where
+  pub part : Part
+  pub among : Contains (legs_of groups part u) leg
+
+among_all : (groups : Groups) (u : ℕ) (leg : Leg) (part : Part) → Contains (legs_of groups part u) leg → Contains (all_legs groups u) leg
+among_all groups u leg Light c = Contains-append_left (legs_of groups Light u) (legs_of groups Heavy u) leg c
+among_all groups u leg Heavy c = Contains-append_right (legs_of groups Light u) (legs_of groups Heavy u) leg c
+
+of_all : (groups : Groups) (u : ℕ) (leg : Leg) → Contains (all_legs groups u) leg → LegOf groups u leg
+of_all groups u leg c =
+    ⊎_elim
+    (λ (light : Contains (legs_of groups Light u) leg). record { part = Light; among = light })
+    (λ (heavy : Contains (legs_of groups Heavy u) leg). record { part = Heavy; among = heavy })
+    (Contains-append_cases (legs_of groups Light u) (legs_of groups Heavy u) leg c)
+
+-- no leg is new, and none is gone
+pub LegOf-wide : (wide narrow : Groups) → IsNarrowed wide narrow → (u : ℕ) (leg : Leg) (part : Part) → Contains (legs_of narrow part u) leg → LegOf wide u leg
+LegOf-wide wide narrow is u leg part c = of_all wide u leg (subst (λ (l : List Leg). Contains l leg) (is.legs u) (among_all narrow u leg part c))
+
+pub LegOf-narrow : (wide narrow : Groups) → IsNarrowed wide narrow → (u : ℕ) (leg : Leg) (part : Part) → Contains (legs_of wide part u) leg → LegOf narrow u leg
+LegOf-narrow wide narrow is u leg part c = of_all narrow u leg (subst (λ (l : List Leg). Contains l leg) (sym (is.legs u)) (among_all wide u leg part c))
 
 pub light_at : (parts : List (List Leg)) (p u : ℕ) → p ≡ 2 * u → get_or (joined parts) p [] ≡ get_or parts p [] ++ get_or parts (p + 1) []
 light_at [] p u e = refl
@@ -37,17 +60,11 @@ module _ (nodes delta greatest narrow : ℕ) (parts : List (List Leg)) where
   none_heavy : (u : ℕ) (leg : Leg) → Contains (legs_of (with_parts nodes narrow greatest (joined parts)) Heavy u) leg → ⊥
   none_heavy u leg c = let none : Contains [] leg = subst (λ (l : List Leg). Contains l leg) (heavy_is u) c in let absurdity : ⊥ = omega (arith, none.1) in absurdity
 
-  was : (part : Part) (u : ℕ) (leg : Leg) → Contains (legs_of (with_parts nodes narrow greatest (joined parts)) part u) leg → HasLeg (with_parts nodes delta greatest parts) u leg
-  was Light u leg c =
-      ⊎_elim
-      (λ (light : Contains (legs_of (with_parts nodes delta greatest parts) Light u) leg). record { part = Light; among = light })
-      (λ (heavy : Contains (legs_of (with_parts nodes delta greatest parts) Heavy u) leg). record { part = Heavy; among = heavy })
-      (Contains-append_cases (legs_of (with_parts nodes delta greatest parts) Light u) (legs_of (with_parts nodes delta greatest parts) Heavy u) leg (subst (λ (l : List Leg). Contains l leg) (light_is u) c))
-  was Heavy u leg c = absurd (none_heavy u leg c)
+  same_legs : (u : ℕ) → all_legs (with_parts nodes narrow greatest (joined parts)) u ≡ all_legs (with_parts nodes delta greatest parts) u
+  same_legs u = ap₂ (λ (a b : List Leg). a ++ b) (light_is u) (heavy_is u) ∙ append-nil (all_legs (with_parts nodes delta greatest parts) u)
 
-  stays : (part : Part) (u : ℕ) (leg : Leg) → Contains (legs_of (with_parts nodes delta greatest parts) part u) leg → HasLeg (with_parts nodes narrow greatest (joined parts)) u leg
-  stays Light u leg c = record { part = Light; among = subst (λ (l : List Leg). Contains l leg) (sym (light_is u)) (Contains-append_left (legs_of (with_parts nodes delta greatest parts) Light u) (legs_of (with_parts nodes delta greatest parts) Heavy u) leg c) }
-  stays Heavy u leg c = record { part = Light; among = subst (λ (l : List Leg). Contains l leg) (sym (light_is u)) (Contains-append_right (legs_of (with_parts nodes delta greatest parts) Light u) (legs_of (with_parts nodes delta greatest parts) Heavy u) leg c) }
+  was : (part : Part) (u : ℕ) (leg : Leg) → Contains (legs_of (with_parts nodes narrow greatest (joined parts)) part u) leg → LegOf (with_parts nodes delta greatest parts) u leg
+  was part u leg c = of_all (with_parts nodes delta greatest parts) u leg (subst (λ (l : List Leg). Contains l leg) (same_legs u) (among_all (with_parts nodes narrow greatest (joined parts)) u leg part c))
 
   none_of : IsGrouped (with_parts nodes delta greatest parts) → (u : ℕ) → ((part : Part) → legs_of (with_parts nodes delta greatest parts) part u ≡ []) → (part : Part) → legs_of (with_parts nodes narrow greatest (joined parts)) part u ≡ []
   none_of grouped u none Light = light_is u ∙ ap₂ (λ (a b : List Leg). a ++ b) (none Light) (none Heavy)
@@ -72,8 +89,7 @@ module _ (nodes delta greatest narrow : ℕ) (parts : List (List Leg)) where
     nodes = refl;
     delta = less;
     greatest = refl;
-    of_wide = λ u leg h. was h.part u leg h.among;
-    of_narrow = λ u leg h. stays h.part u leg h.among;
+    legs = same_legs;
   }
 
 module _ (nodes delta greatest narrow : ℕ) (parts : List (List Leg)) where
@@ -98,8 +114,7 @@ module _ (nodes delta greatest narrow : ℕ) (parts : List (List Leg)) where
     nodes = refl;
     delta = less;
     greatest = refl;
-    of_wide = λ u leg h. record { part = h.part; among = h.among };
-    of_narrow = λ u leg h. record { part = h.part; among = h.among };
+    legs = λ u. refl;
   }
 
 module _ (nodes delta greatest narrow : ℕ) (starts : List ℕ) (legs : List Leg) where

@@ -16,7 +16,7 @@ use Rattle.storefile.proofs.Rests.{standing_is}
 use Rattle.store.specs.declared.paged.Paged.{Paged}
 use Rattle.store.specs.Committing.{HasTidyStanding, MayRefuseCommit, refusal_of_commit}
 use Rattle.store.specs.Checkpointing.{refusal_of_checkpoint}
-use Rattle.store.specs.Durable.{told_by, KeepsTold}
+use Rattle.store.specs.Durable.{told_by, going_of, KeepsTold}
 use Rattle.store.specs.Going.{Progress}
 use Rattle.store.specs.State.{StoreState, IsTidy, IsDurable, HasTold, HasVersion, is_calm, told, state_of}
 use Rattle.store.proofs.Committed.{left_stands}
@@ -175,3 +175,9 @@ pub kept_version : {D : Type 0} {disk : Ghosts D} (result : Result ℕ Refusal) 
     → OnErr result ((new.found.network ≡ old.found.network) × (new.found.version ≡ old.found.version) × (new.found.unchecked ≡ old.found.unchecked) × (new.found.next_sequence ≡ old.found.next_sequence)) → OnErr result (new.found.version ≡ old.found.version)
 kept_version (Ok v) old new kept = tt
 kept_version (Err e) old new kept = kept.1
+
+pub both_kept : {D : Type 0} {disk : Ghosts D} (result : Result ℕ Refusal) (old new : Paged D disk)
+    → OnErr result ((new.found.network ≡ old.found.network) × (new.found.version ≡ old.found.version) × (new.found.unchecked ≡ old.found.unchecked) × (new.found.next_sequence ≡ old.found.next_sequence)) → OnErr result (going_of new ≡ going_of old)
+    → OnErr result ((new.found.unchecked ≡ old.found.unchecked) × (going_of new ≡ going_of old))
+both_kept (Ok v) old new kept going = tt
+both_kept (Err e) old new kept going = (kept.2, going)

@@ -1,4 +1,5 @@
 pub mod Checkpointing
+pub mod Commits
 pub mod Committing
 pub mod Created
 pub mod Durable

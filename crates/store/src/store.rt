@@ -1,17 +1,17 @@
 // A store as its callers see it: its pages, and which groups a stop may add to them. It is apart from `Paged`, so that a caller sees numbers and no page.
-ghost use Rattle.std.specs.Prelude.{◌≡◌, ◌≢◌, ◌+◌, ◌≤◌, ◌↔◌, true, false, List, [], ℕ, None, Some, Ok, length, IfOk, OnOk, OnErr, IfErr, MatchResult, option_map};
+ghost use Rattle.std.specs.Prelude.{◌≡◌, ◌≢◌, ◌+◌, ◌≤◌, ◌↔◌, true, false, List, [], ℕ, None, Ok, length, IfOk, OnOk, OnErr, IfErr, MatchResult};
 ghost use Rattle.disk.specs.Contents.{Only, Rose};
 ghost use Rattle.disk.specs.Moments.{LeavesOnly, AddsNothing};
 ghost use Rattle.roadnet.specs.Groups.{count_of};
-ghost use Rattle.roadnet.specs.Step.{after};
 ghost use Rattle.roadnet.specs.declared.refusals.Refusal.TheVariants.{Device as device, OutOfMemory as out_of_memory};
 ghost use Rattle.pages.specs.Limits.{most_commands};
 ghost use Rattle.pagereader.specs.Outcomes.{failures_told};
-ghost use Rattle.store.specs.Committing.{alone, MayRefuseCommit, RefusesCommit};
+ghost use Rattle.store.specs.Commits.{Commits};
+ghost use Rattle.store.specs.Committing.{alone};
 ghost use Rattle.store.specs.Checkpointing.{refusal_of_checkpoint, MayRefuseCheckpoint};
 ghost use Rattle.pages.specs.Layout.{other, slot_pages};
-ghost use Rattle.store.specs.Going.{part_by, progress_by, slot_by, epoch_by, unchecked_by, with_page_committed};
-ghost use Rattle.store.specs.State.{CameTidy, WhileTidy, LeavesDurableOrAfter, HasCommittedNothing, HasRoom, HasCheckpointPages, IsDurable, IsDurableOrAfter, HasTold, told, commit_refusal, is_calm, checkpoint_of, has_all_checked};
+ghost use Rattle.store.specs.Going.{part_by, progress_by, slot_by, epoch_by, unchecked_by};
+ghost use Rattle.store.specs.State.{CameTidy, WhileTidy, HasCommittedNothing, HasRoom, HasCheckpointPages, IsDurable, IsDurableOrAfter, HasTold, told, is_calm, checkpoint_of, has_all_checked};
 
 use crate::alone::groups_of;
 use crate::in_flight::{InFlight, Made, has_failed};
@@ -135,36 +135,7 @@ impl<D: Disk> Store<D> {
     pub fn commit_groups(&mut self, groups: &[Group]) -> Result<u64, Refusal>
         requires some { 1 ≤ length groups.now }
         requires few { count_of groups.now ≤ most_commands }
-        // At Ok the groups are carried out, each counts one version, and there is one more unchecked page.
-        ensures version { IfOk result (λ version. (version ≡ self.new.version) × (version ≡ self.old.version + length groups.now)) }
-        ensures network { OnOk result (after self.old.network groups.now ≡ Some self.new.network) }
-        ensures unchecked { OnOk result (self.new.unchecked ≡ self.old.unchecked + 1) }
-        ensures works { OnOk result (self.new.broken ≡ false) }
-        ensures slot { (self.new.slot ≡ self.old.slot) × (self.new.epoch ≡ self.old.epoch) }
-        // A checkpoint that is going continues, and counts the page.
-        ensures going { OnOk result (self.new.going ≡ option_map with_page_committed self.old.going) }
-        ensures given { self.new.given ≡ self.old.given }
-        ensures sizes { (self.new.journal_pages ≡ self.old.journal_pages) × (self.new.checkpoint_pages ≡ self.old.checkpoint_pages) }
-        // It refuses if there is a cause. If there is none, it may refuse only for lack of memory, or because the disk failed in this call.
-        ensures refused { MatchResult result (λ _. commit_refusal self.old groups.now ≡ None) (MayRefuseCommit (commit_refusal self.old groups.now)) }
-        ensures same { IfErr result (λ refusal. refusal ≢ device → self.new ≡ self.old) }
-        ensures failed { IfErr result (λ refusal. refusal ≡ device → Rose (D.failures self.old.disk) (D.failures self.new.disk)) }
-        // The count rises by one if that is reported, and otherwise not at all: no failure goes unreported.
-        ensures counted { D.failures self.new.disk ≡ failures_told result (D.failures self.old.disk) }
-        ensures breaks { IfErr result (λ refusal. refusal ≡ device → self.new.broken ≡ true) }
-        ensures kept { OnErr result ((self.new.network ≡ self.old.network) × (self.new.version ≡ self.old.version)) }
-        ensures kept_pages { OnErr result ((self.new.unchecked ≡ self.old.unchecked) × (self.new.going ≡ self.old.going)) }
-        ensures adds_nothing { self.old.broken ≡ true → AddsNothing D.moment D.left_since self.old.disk self.new.disk }
-        // A stop during the call or after it leaves content that stands for the network before the groups, or after them.
-        ensures any_moment { WhileTidy D.honest D.content self.old (LeavesDurableOrAfter D.moment D.left_since groups.now self.old self.new) }
-        ensures in_flight { WhileTidy D.honest D.content self.old ((c : List ℕ) → D.left self.new.disk c → IsDurableOrAfter self.old groups.now c) }
-        // If the disk failed in the call, these groups are in flight.
-        ensures failed_in_flight { IfErr result (λ refusal. refusal ≡ device → self.new.in_flight ≡ groups.now) }
-        ensures none_in_flight { OnOk result (self.new.in_flight ≡ []) }
-        // After Ok a stop leaves only the content, which stands for the network after them.
-        ensures only { D.honest self.old.disk → OnOk result (Only (D.content self.new.disk) (D.left self.new.disk)) }
-        ensures durable { CameTidy D.honest D.content self.old.given → OnOk result ((c : List ℕ) → D.left self.new.disk c → IsDurable self.new c) }
-        ensures honest { D.honest self.new.disk ↔ D.honest self.old.disk }
+        ensures { Commits D.Disk groups.now result self.old self.new }
     {
         let made = self.pages.commit_groups(groups);
         let failed = has_failed(&made);
@@ -178,36 +149,7 @@ impl<D: Disk> Store<D> {
     pub fn commit(&mut self, commands: &[Command]) -> Result<u64, Refusal>
         requires some { 1 ≤ length commands.now }
         requires few { length commands.now ≤ most_commands }
-        // At Ok the commands are carried out, each counts one version, and there is one more unchecked page.
-        ensures version { IfOk result (λ version. (version ≡ self.new.version) × (version ≡ self.old.version + length commands.now)) }
-        ensures network { OnOk result (after self.old.network (alone commands.now) ≡ Some self.new.network) }
-        ensures unchecked { OnOk result (self.new.unchecked ≡ self.old.unchecked + 1) }
-        ensures works { OnOk result (self.new.broken ≡ false) }
-        ensures slot { (self.new.slot ≡ self.old.slot) × (self.new.epoch ≡ self.old.epoch) }
-        // A checkpoint that is going continues, and counts the page.
-        ensures going { OnOk result (self.new.going ≡ option_map with_page_committed self.old.going) }
-        ensures given { self.new.given ≡ self.old.given }
-        ensures sizes { (self.new.journal_pages ≡ self.old.journal_pages) × (self.new.checkpoint_pages ≡ self.old.checkpoint_pages) }
-        // It refuses if there is a cause. If there is none, it may refuse only for lack of memory, or because the disk failed in this call.
-        ensures refused { RefusesCommit (commit_refusal self.old (alone commands.now)) result }
-        ensures same { IfErr result (λ refusal. refusal ≢ device → self.new ≡ self.old) }
-        ensures failed { IfErr result (λ refusal. refusal ≡ device → Rose (D.failures self.old.disk) (D.failures self.new.disk)) }
-        // The count rises by one if that is reported, and otherwise not at all: no failure goes unreported.
-        ensures counted { D.failures self.new.disk ≡ failures_told result (D.failures self.old.disk) }
-        ensures breaks { IfErr result (λ refusal. refusal ≡ device → self.new.broken ≡ true) }
-        ensures kept { OnErr result ((self.new.network ≡ self.old.network) × (self.new.version ≡ self.old.version)) }
-        ensures kept_pages { OnErr result ((self.new.unchecked ≡ self.old.unchecked) × (self.new.going ≡ self.old.going)) }
-        ensures adds_nothing { self.old.broken ≡ true → AddsNothing D.moment D.left_since self.old.disk self.new.disk }
-        // A stop during the call or after it leaves content that stands for the network before the commands, or after them.
-        ensures any_moment { WhileTidy D.honest D.content self.old (LeavesDurableOrAfter D.moment D.left_since (alone commands.now) self.old self.new) }
-        ensures in_flight { WhileTidy D.honest D.content self.old ((c : List ℕ) → D.left self.new.disk c → IsDurableOrAfter self.old (alone commands.now) c) }
-        // If the disk failed in the call, these commands are in flight.
-        ensures failed_in_flight { IfErr result (λ refusal. refusal ≡ device → self.new.in_flight ≡ (alone commands.now)) }
-        ensures none_in_flight { OnOk result (self.new.in_flight ≡ []) }
-        // After Ok a stop leaves only the content, which stands for the network after them.
-        ensures only { D.honest self.old.disk → OnOk result (Only (D.content self.new.disk) (D.left self.new.disk)) }
-        ensures durable { CameTidy D.honest D.content self.old.given → OnOk result ((c : List ℕ) → D.left self.new.disk c → IsDurable self.new c) }
-        ensures honest { D.honest self.new.disk ↔ D.honest self.old.disk }
+        ensures { Commits D.Disk (alone commands.now) result self.old self.new }
     {
         let groups = groups_of(commands);
         self.commit_groups(&groups[..commands.len()])

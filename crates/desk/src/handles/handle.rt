@@ -9,7 +9,7 @@ ghost use Rattle.desk.specs.Readings.{IsNoPlace, IsNoReader, IsViewAfter};
 ghost use Rattle.desk.specs.Turns.{IsRefusedOn, IsUnserved, IsUntaken, WereShown};
 
 use crate::handles::refused::Refused;
-use crate::handles::shelves::{Missed, Shelf};
+use crate::handles::shelves::Missed;
 use crate::lock::shared::Shared;
 use crate::readers::places::{Glance, Place};
 use crate::readers::reader::Reader;
@@ -22,8 +22,8 @@ use relax::{CHUNK, Crew};
 use roadnet::{Command, Group, OutOfMemory, Refusal};
 use rows::{Reply, distance_in};
 use std::alloc::Global;
+use std::sync::Arc;
 use std::sync::atomic::Ordering;
-use std::sync::{Arc, Mutex};
 use std::time::{Duration, Instant};
 
 /// A desk without its threads, for callers in other threads. The desk lends it, and so offers each of its calls.
@@ -34,7 +34,6 @@ pub struct Handle<S: Served> {
     pub(crate) rt: S::Runtime,
     pub(crate) alloc: Global,
     pub(crate) shared: Arc<Shared<S>>,
-    pub(crate) rows: Arc<Mutex<Shelf<S::Naming>>>,
     /// How long a caller waits for a version.
     pub(crate) patience: Duration,
     /// When the desk was started, if the clock could be read.
@@ -46,15 +45,13 @@ pub struct Handle<S: Served> {
 impl<S: Served> Handle<S> {
     /// Another handle of the desk, for a thread of its own. The only error is lack of memory.
     pub fn again(&self) -> Result<Handle<S>, OutOfMemory> {
-        let (Ok(shared), Ok(rows)) = (Arc::try_clone(&self.shared), Arc::try_clone(&self.rows))
-        else {
+        let Ok(shared) = Arc::try_clone(&self.shared) else {
             return Err(OutOfMemory);
         };
         Ok(Handle {
             rt: self.rt,
             alloc: self.alloc,
             shared,
-            rows,
             patience: self.patience,
             since: self.since,
             pairs: self.pairs,
@@ -184,7 +181,7 @@ impl<S: Served> Handle<S> {
     ) -> Result<Reply, Missed>
         ensures { IfOk result (λ reply. IsNode glance.now.view.network target → IsDistance glance.now.view.network source target reply) }
     {
-        let mut rows = self.rows.lock(&self.rt);
+        let mut rows = self.shared.rows.lock(&self.rt);
         match rows.row(glance, source) {
             Some(row) => Ok(distance_in(&row, target)),
             None => Err(rows.missed(glance, source)),
@@ -207,7 +204,7 @@ impl<S: Served> Handle<S> {
             .asker()
             .row(self.alloc, source, &crew, &mut workspace)?;
         let reply = distance_in(&row, target);
-        let mut rows = self.rows.lock(&self.rt);
+        let mut rows = self.shared.rows.lock(&self.rt);
         rows.keep(glance, source, row);
         rows.leave(workspace);
         Ok(reply)
@@ -228,7 +225,7 @@ impl<S: Served> Handle<S> {
         let crew = Crew::new(&self.rt, CHUNK);
         let asker = glance.asker();
         let reply = asker.distance(self.alloc, source, target, &crew, &mut workspace)?;
-        let mut rows = self.rows.lock(&self.rt);
+        let mut rows = self.shared.rows.lock(&self.rt);
         rows.leave(workspace);
         Ok(reply)
     }

@@ -46,7 +46,7 @@ impl<S: Served> Handle<S> {
         let Ok(node) = u32::try_from(near.node()) else {
             return None;
         };
-        let mut rows = self.rows.lock(&self.rt);
+        let mut rows = self.shared.rows.lock(&self.rt);
         rows.row(glance, node)
     }
 
@@ -54,7 +54,7 @@ impl<S: Served> Handle<S> {
     fn kept_turned(&self, glance: &Glance<S::Naming>) -> Option<Arc<Snapshot>>
         ensures { IfSome result (λ back. IsSnapshotOf (reversed glance.now.view.network) back.value) }
     {
-        let mut rows = self.rows.lock(&self.rt);
+        let mut rows = self.shared.rows.lock(&self.rt);
         rows.turned(glance)
     }
 
@@ -71,20 +71,20 @@ impl<S: Served> Handle<S> {
         }
         let back = turned_by(self.alloc, &glance.asker())?;
         let shared = Arc::try_clone(&back).ok()?;
-        let mut rows = self.rows.lock(&self.rt);
+        let mut rows = self.shared.rows.lock(&self.rt);
         rows.keep_turned(glance, shared);
         Some(back)
     }
 
     /// The memory of a search.
     fn workspace(&self) -> Workspace {
-        let mut rows = self.rows.lock(&self.rt);
+        let mut rows = self.shared.rows.lock(&self.rt);
         rows.workspace()
     }
 
     /// Keeps what a search left.
     fn leave(&self, workspace: Workspace) {
-        let mut rows = self.rows.lock(&self.rt);
+        let mut rows = self.shared.rows.lock(&self.rt);
         rows.leave(workspace);
     }
 

@@ -44,7 +44,7 @@ impl<S: Served> Handle<S> {
         if let Some(back) = glance.back() {
             return Some(back);
         }
-        let mut rows = self.rows.lock(&self.rt);
+        let mut rows = self.shared.rows.lock(&self.rt);
         rows.back(glance)
     }
 
@@ -52,7 +52,7 @@ impl<S: Served> Handle<S> {
     fn keep_back(&self, glance: &Glance<S::Naming>, back: Arc<Snapshot>)
         requires { LeadsBack glance.now.view.network back.value }
     {
-        let mut rows = self.rows.lock(&self.rt);
+        let mut rows = self.shared.rows.lock(&self.rt);
         rows.keep_back(glance, back);
     }
 
@@ -75,7 +75,7 @@ impl<S: Served> Handle<S> {
     fn lend(&self, glance: &Glance<S::Naming>, source: u64) -> Lent
         ensures { IfSome result.row (RowOf glance.now.view.network source) }
     {
-        let mut rows = self.rows.lock(&self.rt);
+        let mut rows = self.shared.rows.lock(&self.rt);
         let workspace = rows.workspace();
         match u32::try_from(source) {
             Ok(source) => Lent {
@@ -119,7 +119,7 @@ impl<S: Served> Handle<S> {
             &crew,
             &mut workspace,
         );
-        let mut rows = self.rows.lock(&self.rt);
+        let mut rows = self.shared.rows.lock(&self.rt);
         rows.leave(workspace);
         reply
     }

@@ -1,4 +1,5 @@
 // What the threads of a desk and its callers share.
+use crate::handles::shelves::Shelf;
 use crate::lock::held::Held;
 use crate::lock::turns::{BuilderTurn, FlusherTurn};
 use crate::served::{OfficeOf, Served};
@@ -25,6 +26,8 @@ pub(crate) struct Shared<S: Served> {
     /// How many clients there are, and how many callers wait.
     pub(crate) clients: AtomicU64,
     pub(crate) waiting: AtomicU64,
+    /// The rows that are kept for all callers.
+    pub(crate) rows: Mutex<Shelf<S::Naming>>,
     pub(crate) gate: S::Gate,
 }
 
@@ -62,7 +65,7 @@ impl<S: Served> Shared<S> {
     }
 
     /// The lock of a new desk.
-    pub(crate) fn new(office: OfficeOf<S>, gate: S::Gate) -> Shared<S> {
+    pub(crate) fn new(office: OfficeOf<S>, shelf: Shelf<S::Naming>, gate: S::Gate) -> Shared<S> {
         Shared {
             held: Mutex::new(Held::new(office)),
             submitted: Condvar::new(),
@@ -72,6 +75,7 @@ impl<S: Served> Shared<S> {
             last: AtomicU64::new(UNKNOWN),
             clients: AtomicU64::new(0),
             waiting: AtomicU64::new(0),
+            rows: Mutex::new(shelf),
             gate,
         }
     }

@@ -7,27 +7,14 @@ use crate::clients::answering::Answering;
 use crate::clients::past::Past;
 use crate::clients::served::{Finished, serve_client};
 use crate::clients::serving::Terms;
-use crate::copies::{AskingAlone, Copies};
 use desk::{Handle, Naming, Served};
 use printing::Failed;
 use roadnet::Refusal;
-use session_lines::LastLine;
+use session_lines::{AskingAlone, Copies, Door, LastLine};
 use std::alloc::Global;
 use std::io::{BufRead, Write};
 use std::sync::{Arc, Mutex, MutexGuard, Wait};
 use std::thread::{self, JoinHandle, Threads};
-
-/// A place where clients come, one after the other.
-pub trait Door<I, W> {
-    /// Whether their sessions may only ask.
-    fn asks_alone(&self) -> bool;
-
-    /// The next client, once it has come: where its lines come from, and where its answers go. Nothing if no more clients come.
-    fn next(&mut self) -> Option<(I, W)>;
-
-    /// The session with the last client has ended, with this outcome. What was handed out is handed back, to be closed.
-    fn ended(&mut self, reader: I, writer: W, outcome: Result<(), Failed>);
-}
 
 /// What the sessions at the doors of one desk share: what the finished ones left, which sessions are within an answer, and who makes copies for them.
 #[derive(Drop)]

@@ -2,11 +2,11 @@
 ghost use Rattle.sessions.specs.Clients.{IsServed};
 
 use crate::clients::serving::{Terms, serve};
-use crate::copies::Copies;
 use crate::session::sessions::Session;
 use desk::{Handle, Naming, Served};
 use dimacs::Counted;
 use printing::{CountedWriter, Failed};
+use session_lines::Copies;
 use std::alloc::Global;
 use std::io::{BufRead, Write};
 

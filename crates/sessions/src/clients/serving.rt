@@ -7,13 +7,12 @@ ghost use Rattle.sessions.specs.Clients.{AreAnswered};
 ghost use Rattle.sessions.specs.Told.{CountsRead, IsOfStream};
 
 use crate::clients::answering::Answering;
-use crate::copies::Copies;
 use crate::session::sessions::Session;
 use desk::{Handle, Served};
 use dimacs::Counted;
 use printing::{CountedWriter, Failed};
 use roadnet::Refusal;
-use session_lines::{LastLine, is_quit, next_line};
+use session_lines::{Copies, LastLine, is_quit, next_line};
 use std::alloc::Global;
 use std::io::{BufRead, Write};
 

@@ -4,11 +4,10 @@ ghost use mathlib.Core.List.{IsPrefix};
 ghost use Rattle.published.specs.Showing.{IsUnseen};
 ghost use Rattle.rows.specs.Replies.{IsRight};
 ghost use Rattle.session_lines.specs.SessionLines.{name_of};
-ghost use Rattle.sessions.specs.Copying.{IsUnmade};
+ghost use Rattle.session_lines.specs.Copying.{IsUnmade};
 ghost use Rattle.sessions.specs.Saying.{PutsSo};
 ghost use Rattle.sessions.specs.Told.{known_to, AnswersAfter, IsCopied, IsLooked, IsUnsighted, Replies};
 
-use crate::copies::Copies;
 use crate::session::seeing::see;
 use crate::told::telling::{tell_copied, tell_fault, tell_look, tell_refusal};
 use desk::{Glance, Handle, Naming, Place, Served};
@@ -17,7 +16,7 @@ use machine::{Answer, Replied};
 use printing::{CountedWriter, Failed, Look};
 use roadnet::Refusal;
 use rows::{Query, Reply};
-use session_lines::Name;
+use session_lines::{Copies, Name};
 use std::alloc::Global;
 use std::io::Write;
 

@@ -7,7 +7,6 @@ ghost use Rattle.sessions.specs.Saying.{PutsSo, Says, Stays};
 ghost use Rattle.sessions.specs.Told.{known_to, HasShown, IsUnshown, ShowsLast};
 ghost use Rattle.sessions.specs.Turns.{IsForgotten, IsFoundNear, IsQueried, IsRouted, IsTabled};
 
-use crate::copies::Copies;
 use crate::queries::around::{near_supposed, table_supposed};
 use crate::queries::asking::{ask, copy_shown, look_shown};
 use crate::queries::finding::{near_shown, table_shown};
@@ -22,7 +21,7 @@ use dimacs::Code;
 use printing::{CountedWriter, Failed};
 use roadnet::{Group, Refusal};
 use rows::Query;
-use session_lines::{Line, Table, is_end};
+use session_lines::{Copies, Line, Table, is_end};
 use std::alloc::Global;
 use std::io::Write;
 

@@ -6,7 +6,6 @@ ghost use Rattle.sessions.specs.Saying.{EndsSo, Tells};
 ghost use Rattle.sessions.specs.Told.{Carried, HasAllOf, HasMore, IsDeclinedOn};
 ghost use Rattle.sessions.specs.Turns.{IsGroupAnswer};
 
-use crate::copies::Copies;
 use crate::session::sessions::{Accepted, Purpose, Session};
 use crate::told::telling::{tell_asks_alone, tell_fault, tell_refusal, tell_reply};
 use desk::{Handle, Naming, Receipt, Refused, Served, Ticket};
@@ -14,7 +13,7 @@ use history::Front;
 use machine::Replied;
 use printing::{CountedWriter, Failed};
 use roadnet::{Group, Refusal};
-use session_lines::{Draft, NoGroup};
+use session_lines::{Copies, Draft, NoGroup};
 use std::io::Write;
 
 /// A front of the history that has what an earlier one had, if there was one, and this receipt.

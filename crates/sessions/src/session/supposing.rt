@@ -2,7 +2,7 @@
 ghost use Rattle.std.specs.Prelude.{◌≡◌, IfOk, IfErr, OnOk};
 ghost use mathlib.Core.List.{IsPrefix};
 ghost use Rattle.printing.specs.Writers.{OnlyWriterFails};
-ghost use Rattle.sessions.specs.Copying.{no_copying};
+ghost use Rattle.session_lines.specs.Copying.{no_copying};
 ghost use Rattle.sessions.specs.Saying.{EndsSo, PutsSo, Tells};
 ghost use Rattle.sessions.specs.Supposing.{SupposesAfter, IsUnsupposed, IsSupposedAnswer};
 ghost use Rattle.sessions.specs.Told.{known_to};

@@ -9,7 +9,7 @@ use Rattle.dimacs.specs.Counts.{reader_of}
 use Rattle.printing.specs.Counting.{writer_of}
 use Rattle.session_lines.specs.declared.reading.LastLine.TheVariants.{Taken}
 use Rattle.sessions.specs.Turns.{Serves, IsKept}
-use Rattle.program.specs.Copied.{copies_in}
+use Rattle.server_files.specs.Copied.{copies_in}
 use Rattle.program.proofs.serve_jobs.serve_disk.Goals as goal
 
 stands_for_origin : {X : Type 0} (content : List ℕ) (answer : Result X Refusal) (origin_of : X → Origin) (origin : Origin)

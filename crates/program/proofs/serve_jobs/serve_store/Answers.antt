@@ -7,7 +7,7 @@ use Rattle.printing.specs.declared.failed.Failed.{Failed}
 use Rattle.printing.specs.declared.failed.Failed.TheVariants.{Code}
 use Rattle.session_lines.specs.declared.reading.LastLine.{LastLine}
 use Rattle.session_lines.specs.declared.reading.LastLine.TheVariants.{Taken}
-use Rattle.sessions.specs.Copying.{Copying}
+use Rattle.session_lines.specs.Copying.{Copying}
 use Rattle.sessions.specs.Turns.{Serves, Standing}
 use Rattle.program.proofs.serve_jobs.serve_store.Goals as goal
 

@@ -1,6 +1,9 @@
-use Rattle.std.proofs.Common.{◌∙◌, length}
+use Rattle.std.proofs.Common.{◌∙◌, length, refl, ap}
+use Rattle.std.proofs.lemmas.Result.{on_err_weaker}
+use Rattle.pages.specs.declared.header.Header.{Header}
+use Rattle.pages.specs.Layout.{slot_pages}
 use Rattle.store.proofs.InFlight.{AreInFlight, worked_before, in_flight_still, in_flight_else, in_flight_at_device, none_at_ok, same_state, left_after_commit}
-use Rattle.store.proofs.StateKept.{worked_at_commit, at_ok_with, rests_after, told_after_commit, kept_version}
+use Rattle.store.proofs.StateKept.{worked_at_commit, at_ok_with, rests_after, told_after_commit, kept_version, both_kept}
 use Rattle.store.proofs.store.Store.commit_groups.Goals as goal
 
 pub invariant_of-self : goal.invariant_of-self
@@ -25,33 +28,41 @@ invariant_of-self g c =
       told_after_commit result c.self.inside.given.value p n (length commands) c.requires.some e.tells.honest e.version (kept_version result p n e.kept) e.same e.tells.breaks c.self.invariant.2,
     )
 
-pub returns-clause-any_moment : goal.returns-clause-any_moment
-returns-clause-any_moment g c = rw (← c.self.view_is) (λ came works.
-    let held = c.self.invariant.1 came in c.commit_groups-made.ensures.any_moment works held.0 (held.1 works).1)
-
-pub returns-clause-in_flight : goal.returns-clause-in_flight
-returns-clause-in_flight g c = rw (← c.self.view_is) (λ came works.
-    let held = c.self.invariant.1 came in c.commit_groups-made.ensures.in_flight works held.0 (held.1 works).1)
-
-pub returns-clause-durable : goal.returns-clause-durable
-returns-clause-durable g c = rw (← c.self.view_is) (λ came.
-    let held = c.self.invariant.1 came in
+pub returns : goal.returns
+returns g c =
     let p = c.self.inside.pages in
-    at_ok_with _ c.commit_groups-made.result (worked_at_commit c.commit_groups-made.result p.broken p.found.version p.found.unchecked p.found.header.journal_pages p.found.network c.args.groups.now c.commit_groups-made.ensures.refused)
-    (λ works. c.commit_groups-made.ensures.durable held.0 (held.1 works).1))
-
-pub returns-clause-same : goal.returns-clause-same
-returns-clause-same g c =
-    rw (← c.self.view_is) (
+    let n = c.commit_groups-made.new.self in
+    let e = c.commit_groups-made.ensures in
+    let result = c.commit_groups-made.result in
+    let failed = c.has_failed-failed.result in
+    let commands = c.args.groups.now in
     let before = c.self.inside.in_flight.groups in
     let after = c.after-self-inside.result.groups in
-    same_state c.commit_groups-made.result c.self.inside.pages c.commit_groups-made.new.self c.self.inside.given.value before after c.commit_groups-made.ensures.same
-    (in_flight_else c.commit_groups-made.result c.has_failed-failed.result c.args.groups.now before after (c.has_failed-failed.ensures, c.after-self-inside.ensures)))
-
-pub returns-clause-failed_in_flight : goal.returns-clause-failed_in_flight
-returns-clause-failed_in_flight g c =
-    in_flight_at_device c.commit_groups-made.result c.has_failed-failed.result c.args.groups.now c.self.inside.in_flight.groups c.after-self-inside.result.groups (c.has_failed-failed.ensures, c.after-self-inside.ensures)
-
-pub returns-clause-none_in_flight : goal.returns-clause-none_in_flight
-returns-clause-none_in_flight g c =
-    none_at_ok c.commit_groups-made.result c.commit_groups-made.new.self.broken c.after-self-inside.result.groups c.commit_groups-made.ensures.works (invariant_of-self g c).0
+    let are : AreInFlight result failed commands before after = (c.has_failed-failed.ensures, c.after-self-inside.ensures) in
+    rw (← c.self.view_is) (record {
+      version = e.version;
+      network = e.network;
+      unchecked = e.unchecked;
+      works = e.works;
+      slot = (e.slot, e.epoch);
+      going = e.going;
+      given = refl;
+      sizes = (ap (λ (h : Header). h.journal_pages) e.header, ap (λ (h : Header). slot_pages h) e.header);
+      refused = e.refused;
+      same = same_state result p n c.self.inside.given.value before after e.same (in_flight_else result failed commands before after are);
+      failed = e.tells.failed;
+      counted = e.tells.counted;
+      breaks = e.tells.breaks;
+      kept = on_err_weaker result (λ kept. (kept.0, kept.1)) e.kept;
+      kept_pages = both_kept result p n e.kept e.same_going;
+      adds_nothing = e.adds_nothing;
+      any_moment = λ came works. let held = c.self.invariant.1 came in e.any_moment works held.0 (held.1 works).1;
+      in_flight = λ came works. let held = c.self.invariant.1 came in e.in_flight works held.0 (held.1 works).1;
+      failed_in_flight = in_flight_at_device result failed commands before after are;
+      none_in_flight = none_at_ok result n.broken after e.works (invariant_of-self g c).0;
+      only = e.only;
+      durable = λ came.
+          let held = c.self.invariant.1 came in
+          at_ok_with _ result (worked_at_commit result p.broken p.found.version p.found.unchecked p.found.header.journal_pages p.found.network commands e.refused) (λ works. e.durable held.0 (held.1 works).1);
+      honest = e.tells.honest;
+    })

@@ -1,7 +1,0 @@
--- What a door did last with the pipes of its pair, and what it did before that.
-use Rattle.program.specs.declared.deeds.Deed.{Deed}
-use Rattle.program.specs.declared.deeds.Deeds.{Deeds}
-
--- the same after one more deed
-abbrev pub noted : Deed → Deeds → Deeds
-noted deed deeds = record { last = deed; before = deeds.last; earlier = deeds.before }

@@ -5,7 +5,7 @@ use Rattle.roadnet.specs.Reversal.{reversed}
 use Rattle.roadnet.specs.Walks.{Least}
 use Rattle.roadnet.proofs.Reversed.{IsNetwork-reversed, least_reverses, reversed_twice}
 use Rattle.deltastep.specs.Reach.{IsReach, IsReachTo}
-use Rattle.deltastep.specs.declared.known.NodeDistance.{NodeDistance}
+use Rattle.deltastep.specs.declared.rows.known.NodeDistance.{NodeDistance}
 
 least_turned : (net : Net) (s t d : ℕ) → IsNetwork net → Least net s t d → Least (reversed net) t s d
 least_turned net s t d is least = least_reverses (reversed net) t s d (IsNetwork-reversed net is) (subst (λ (n : Net). Least n s t d) (sym (reversed_twice net)) least)

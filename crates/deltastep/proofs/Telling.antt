@@ -22,7 +22,7 @@ use Rattle.relax.specs.Values.{value_at, value_or}
 use Rattle.roadnet.specs.Net.{Net, IsNode}
 use Rattle.roadnet.specs.Walks.{Least}
 use Rattle.deltastep.specs.Reach.{AreAllWithin, AreEnough, AreFinal, AreNearest, ArePlaces, ComeBefore, IsReach, IsWithin, has_within, is_within, nearer_first, told_as, told_of}
-use Rattle.deltastep.specs.declared.known.NodeDistance.{NodeDistance}
+use Rattle.deltastep.specs.declared.rows.known.NodeDistance.{NodeDistance}
 use Rattle.deltastep.proofs.Ending.{Least-once, value_below}
 use Rattle.deltastep.proofs.Finishing.{Contains-filter, Contains-of_filter}
 use Rattle.deltastep.proofs.Lowering.{value_or-some}

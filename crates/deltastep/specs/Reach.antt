@@ -17,7 +17,7 @@ use Rattle.roadnet.specs.Walks.{Least, NoWalk}
 use Rattle.snapshot.specs.Groups.{Groups}
 use Rattle.buckets.specs.Queue.{Entries}
 use Rattle.std.specs.FinMap as map_of
-use Rattle.deltastep.specs.declared.known.NodeDistance.{NodeDistance}
+use Rattle.deltastep.specs.declared.rows.known.NodeDistance.{NodeDistance}
 
 -- a node with its distance
 abbrev pub told_as : ℕ → ℕ → NodeDistance

@@ -7,8 +7,8 @@ use Rattle.buckets.specs.declared.queue.BucketQueue.{Ghosts as QueueGhosts}
 use Rattle.buckets.specs.Queue.{Entries}
 use Rattle.frontier.specs.declared.frontier.Frontier.{Ghosts}
 use Rattle.frontier.specs.Frontier.{TakesAny}
-use Rattle.deltastep.specs.declared.guided.KeyedSearch.{KeyedSearch}
-use Rattle.deltastep.specs.declared.search.Search.{Search}
+use Rattle.deltastep.specs.declared.questions.guided.KeyedSearch.{KeyedSearch}
+use Rattle.deltastep.specs.declared.searches.search.Search.{Search}
 use Rattle.deltastep.specs.Search.{AreInBucket, AreLater, AreLive, AreLiveFrom, AreReached, FitsFrom, HasQueued, IsBetweenBuckets, IsBucketEmpty, IsRelaxedBut, IsSearch, IsSuited, MeetsRequests, weight}
 use Rattle.deltastep.specs.Guided.{IsLoweredTo}
 

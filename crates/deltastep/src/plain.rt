@@ -3,7 +3,7 @@ ghost use Rattle.roadnet.specs.Net.{IsNode, IsArcAmong};
 ghost use Rattle.roadnet.specs.Walks.{RowOf};
 ghost use Rattle.deltastep.specs.Tentative.{IsBounded, IsWalked, IsSettled, IsLowered};
 
-use crate::distances::{Distances, NO_WALK, RowError};
+use crate::rows::distances::{Distances, NO_WALK, RowError};
 use roadnet::{Network, RoadArc};
 use std::alloc::Global;
 

@@ -7,12 +7,12 @@ use Rattle.office.specs.declared.naming.Naming.{Ghosts as NamingGhosts}
 use Rattle.roadnet.proofs.networks.Network.TheSendSync as Networks
 use Rattle.roadnet.proofs.groups.Group.TheSendSync as Groups
 use Rattle.snapshot.proofs.groups.Snapshot.TheSendSync as Snapshots
-use Rattle.store.proofs.paged.Paged.TheSendSync as Pages
+use Rattle.store.proofs.paged.state.Paged.TheSendSync as Pages
 use Rattle.history.proofs.histories.History.TheSendSync as Histories
 use Rattle.published.proofs.publishers.Publisher.TheSendSync as Publishers
 use Rattle.rows.proofs.sights.Sight.TheSendSync as Sights
-use Rattle.store.specs.contracts.store.Store as Store
-use Rattle.store.specs.contracts.store.Store.TheInside as StoreInside
+use Rattle.store.specs.contracts.stores.store.Store as Store
+use Rattle.store.specs.contracts.stores.store.Store.TheInside as StoreInside
 use Rattle.keeper.specs.contracts.ledger.ledgers.Ledger as Ledger
 use Rattle.keeper.specs.contracts.ledger.ledgers.Ledger.TheInside as LedgerInside
 use Rattle.keeper.specs.contracts.keeper.keepers.Keeper as Keeper
@@ -22,8 +22,8 @@ use Rattle.office.specs.contracts.offices.Office.TheInside as OfficeInside
 use Rattle.desk.specs.contracts.lock.held.Held as Held
 use Rattle.desk.specs.contracts.handles.shelves.Shelf as Shelf
 use Rattle.desk.specs.contracts.handles.shelves.Shelf.TheInside as ShelfInside
-use Rattle.deltastep.proofs.distances.Distances.TheSendSync as Rows
-use Rattle.deltastep.proofs.workspace.Workspace.TheSendSync as Workspaces
+use Rattle.deltastep.proofs.rows.distances.Distances.TheSendSync as Rows
+use Rattle.deltastep.proofs.searches.workspace.Workspace.TheSendSync as Workspaces
 use Rattle.history.proofs.fronts.Front.TheSendSync as Fronts
 use Rattle.desk.specs.contracts.lock.shared.Shared as Shared
 use Rattle.desk.specs.contracts.handles.handle.Handle as Handle

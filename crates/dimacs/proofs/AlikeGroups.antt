@@ -6,10 +6,10 @@ use Rattle.std.specs.Str.{bytes_eq}
 use lib.Chars.{codes}
 use Rattle.std.proofs.lemmas.Bool.{cases_Bool, or_parts}
 use Rattle.roadnet.specs.declared.commands.Command.{Command}
-use Rattle.dimacs.specs.declared.commands.GroupLines.{GroupLines}
+use Rattle.dimacs.specs.declared.commands.group_lines.GroupLines.{GroupLines}
 use Rattle.dimacs.specs.declared.fault.Code.{Code}
 use Rattle.dimacs.specs.declared.fault.Code.TheVariants.{BadLine, NumberRange}
-use Rattle.dimacs.specs.declared.numeral.Numeral.{Numeral}
+use Rattle.dimacs.specs.declared.numerals.numeral.Numeral.{Numeral}
 use Rattle.dimacs.specs.Alike.{AllAlike, SaySame}
 use Rattle.dimacs.specs.Commands.{Form, commands, form_of, is_refused, command_applies, command_code}
 use Rattle.dimacs.specs.Commanded.{begins, command_from, command_of, ends, group_code, grouping_of, next_grouping}

@@ -5,7 +5,7 @@ use Rattle.std.specs.List.{list_any, list_all, starts_with}
 use Rattle.std.specs.Option.{option_map_or, option_map}
 use Rattle.std.specs.Str.{bytes_eq}
 use Rattle.std.proofs.lemmas.Bool.{lt-ltb, or_parts}
-use Rattle.dimacs.specs.declared.numeral.Numeral.{Numeral}
+use Rattle.dimacs.specs.declared.numerals.numeral.Numeral.{Numeral}
 use Rattle.dimacs.specs.Alike.{AreAlike, AllAlike}
 use Rattle.dimacs.specs.Content.{size_at}
 use Rattle.dimacs.specs.Faults.{Row, is_malformed, some_numeral, some_at, is_unreadable, size_of}

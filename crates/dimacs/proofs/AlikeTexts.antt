@@ -8,7 +8,7 @@ use Rattle.std.proofs.lemmas.Bool.{cases_Bool, or_parts}
 use Rattle.roadnet.specs.declared.arcs.RoadArc.{RoadArc}
 use Rattle.dimacs.specs.declared.fault.Code.{Code}
 use Rattle.dimacs.specs.declared.fault.Code.TheVariants.{BadLine, NoProblemLine, SecondProblemLine, WrongKind, NumberRange, NodeRange, LengthRange, LineCount, TooLarge}
-use Rattle.dimacs.specs.declared.gr_lines.GrLines.{GrLines}
+use Rattle.dimacs.specs.declared.graphs.gr_lines.GrLines.{GrLines}
 use Rattle.dimacs.specs.Alike.{AllAlike, SaySame}
 use Rattle.dimacs.specs.Content.{arc_from, arc_of, size_at}
 use Rattle.dimacs.specs.Faults.{Row, or_else, is_problem, is_item, has_kind, count_fields, some_numeral, some_at, is_unreadable, is_under, is_over, is_no_node, is_no_length, size_of, nodes_of, problem_of, announced, applies, code_of}

@@ -7,9 +7,9 @@ use Rattle.std.specs.Io.KnownBytes.{Keeps}
 use Rattle.std.specs.Io.BufRead.{DropsConsumable}
 use Rattle.std.proofs.lemmas.List.{drop-append-le}
 use Rattle.std.proofs.lemmas.List.Elements.{All-nil}
-use Rattle.dimacs.specs.declared.feed.Feed.{Feed}
-use Rattle.dimacs.specs.declared.feed.TakenBytes.{TakenBytes}
-use Rattle.dimacs.specs.declared.feed.Ended.{Ended}
+use Rattle.dimacs.specs.declared.lines.feed.Feed.{Feed}
+use Rattle.dimacs.specs.declared.lines.feed.TakenBytes.{TakenBytes}
+use Rattle.dimacs.specs.declared.lines.feed.Ended.{Ended}
 use Rattle.dimacs.specs.declared.fault.Code.{Code}
 use Rattle.dimacs.specs.declared.fault.Fault.{Fault}
 use Rattle.dimacs.specs.declared.fault.Code.TheVariants.{Read}

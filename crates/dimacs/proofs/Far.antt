@@ -10,8 +10,8 @@ use Rattle.std.proofs.lemmas.List.Sums.{sum_by-append}
 use Rattle.std.proofs.lemmas.List.Elements.{All-append, All-nil}
 use Rattle.std.proofs.Math.Seq.{take-append_seam, drop-append_seam}
 use Rattle.std.specs.Io.BufRead.{strip_last}
-use Rattle.dimacs.specs.declared.feed.Feed.{Feed}
-use Rattle.dimacs.specs.declared.feed.Ended.{Ended}
+use Rattle.dimacs.specs.declared.lines.feed.Feed.{Feed}
+use Rattle.dimacs.specs.declared.lines.feed.Ended.{Ended}
 use Rattle.dimacs.specs.declared.fault.Code.{Code}
 use Rattle.dimacs.proofs.Items.{by_code_of, by_memory_of}
 use Rattle.dimacs.specs.Lines.{is_line_feed, lines, fields, rows}

@@ -12,8 +12,8 @@ use lib.Chars.{codes}
 use Rattle.roadnet.specs.declared.arcs.RoadArc.{RoadArc}
 use Rattle.roadnet.specs.Net.{most_nodes, most_arcs, longest_arc}
 use Rattle.roadnet.specs.Made.{is_node_among, is_node_count, is_long, is_stray}
-use Rattle.dimacs.specs.declared.numeral.Numeral.{Numeral}
-use Rattle.dimacs.specs.declared.problem.Problem.{Problem}
+use Rattle.dimacs.specs.declared.numerals.numeral.Numeral.{Numeral}
+use Rattle.dimacs.specs.declared.graphs.problem.Problem.{Problem}
 use Rattle.dimacs.specs.declared.fault.Code.TheVariants.{BadLine, SecondProblemLine, WrongKind, NumberRange, NodeRange, LengthRange, LineCount, TooLarge}
 use Rattle.dimacs.specs.Faults.{Row, is_under, is_over}
 use Rattle.dimacs.specs.Reading.{two_numerals, counted, problem_of_numerals, problem_after, item_after}

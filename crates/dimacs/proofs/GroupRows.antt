@@ -4,7 +4,7 @@ use Rattle.std.specs.Prelude.{is_some, option_map, unwrap_or}
 use Rattle.std.proofs.lemmas.Bool.{eqb-true, lt-ltb}
 use lib.Chars.{codes}
 use Rattle.roadnet.specs.declared.commands.Command.{Command}
-use Rattle.dimacs.specs.declared.commands.GroupLines.{GroupLines}
+use Rattle.dimacs.specs.declared.commands.group_lines.GroupLines.{GroupLines}
 use Rattle.dimacs.specs.declared.fault.Code.{Code}
 use Rattle.dimacs.specs.Commands.{commands, command_code}
 use Rattle.dimacs.specs.Commanded.{Grouping, begins, command_of, ends, group_code, grouping_of, next_grouping}

@@ -4,8 +4,8 @@ use Rattle.std.specs.Prelude.{is_none, ⊤}
 use Rattle.std.proofs.lemmas.Bool.{cases_Bool, ne_eqb, or_parts, ltb-false}
 use Rattle.std.proofs.lemmas.Bool.Decides.{nat_tests}
 use lib.Chars.{codes}
-use Rattle.dimacs.specs.declared.numeral.Numeral.{Numeral}
-use Rattle.dimacs.specs.declared.problem.Problem.{Problem}
+use Rattle.dimacs.specs.declared.numerals.numeral.Numeral.{Numeral}
+use Rattle.dimacs.specs.declared.graphs.problem.Problem.{Problem}
 use Rattle.roadnet.specs.declared.arcs.RoadArc.{RoadArc}
 use Rattle.dimacs.specs.declared.fault.Code.{Code}
 use Rattle.dimacs.specs.declared.fault.Code.TheVariants.{BadLine, NoProblemLine, SecondProblemLine, WrongKind, NumberRange, NodeRange, LengthRange, LineCount, TooLarge, Read, OutOfMemory, GroupSize, OpenGroup}
@@ -18,7 +18,7 @@ use Rattle.dimacs.specs.Content.{arc_from, arc_of}
 use Rattle.std.specs.List.{filter_map, cons_option, find, AllByRecursion}
 use Rattle.std.proofs.lemmas.List.{length-append}
 use Rattle.std.proofs.lemmas.List.Sums.{sum_by_push}
-use Rattle.dimacs.specs.declared.gr_lines.GrLines.{GrLines}
+use Rattle.dimacs.specs.declared.graphs.gr_lines.GrLines.{GrLines}
 use Rattle.dimacs.specs.Progress.{counts_of, HasTaken}
 use Rattle.dimacs.specs.Taking.{Takes, ByCode, ByMemory}
 

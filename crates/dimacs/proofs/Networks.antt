@@ -2,8 +2,8 @@
 use Rattle.std.proofs.Common.{◌≡◌, ℕ, true, List, length, Option, Some, None, Result, Ok, Err}
 use Rattle.std.specs.Prelude.{IfSome}
 use Rattle.roadnet.specs.Net.{Net}
-use Rattle.dimacs.specs.declared.feed.Ended.{Ended}
-use Rattle.dimacs.specs.declared.gr_lines.GrLines.{GrLines}
+use Rattle.dimacs.specs.declared.lines.feed.Ended.{Ended}
+use Rattle.dimacs.specs.declared.graphs.gr_lines.GrLines.{GrLines}
 use Rattle.dimacs.specs.declared.fault.Fault.{Fault}
 use Rattle.dimacs.specs.Format.{gr}
 use Rattle.dimacs.specs.Lines.{rows}

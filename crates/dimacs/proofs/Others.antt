@@ -2,7 +2,7 @@
 use Rattle.std.proofs.Common.{◌≡◌, ℕ, Bool, true, false, ◌||◌, List, [], ◌∷◌, ◌++◌, ltb, length, Some, None, Ok, refl, ◌∙◌, arith}
 use Rattle.std.proofs.lemmas.Bool.{eqb-true, lt-ltb}
 use Rattle.std.proofs.lemmas.List.{append-nil}
-use Rattle.dimacs.specs.declared.gr_lines.GrLines.{GrLines}
+use Rattle.dimacs.specs.declared.graphs.gr_lines.GrLines.{GrLines}
 use Rattle.dimacs.specs.declared.fault.Code.TheVariants.{BadLine}
 use Rattle.dimacs.specs.Format.{gr}
 use Rattle.dimacs.specs.Faults.{Row, is_empty, is_comment, is_remark, is_problem, is_item, is_unknown, applies, code_of}

@@ -5,9 +5,9 @@ use Rattle.std.specs.Str.{bytes_eq}
 use Rattle.std.proofs.lemmas.Bool.{cases_Bool, ne_eqb, or_parts}
 use lib.Chars.{codes}
 use Rattle.roadnet.specs.Net.{most_nodes, most_arcs}
-use Rattle.dimacs.specs.declared.numeral.Numeral.{Numeral}
-use Rattle.dimacs.specs.declared.problem.Problem.{Problem}
-use Rattle.dimacs.specs.declared.gr_lines.GrLines.{GrLines}
+use Rattle.dimacs.specs.declared.numerals.numeral.Numeral.{Numeral}
+use Rattle.dimacs.specs.declared.graphs.problem.Problem.{Problem}
+use Rattle.dimacs.specs.declared.graphs.gr_lines.GrLines.{GrLines}
 use Rattle.dimacs.specs.declared.fault.Code.{Code}
 use Rattle.dimacs.specs.declared.fault.Code.TheVariants.{BadLine, SecondProblemLine, WrongKind, NumberRange, TooLarge}
 use Rattle.dimacs.specs.Format.{gr}

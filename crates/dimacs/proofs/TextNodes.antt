@@ -11,7 +11,7 @@ use lib.Chars.{codes}
 use Rattle.dimacs.specs.declared.fault.Code.{Code}
 use Rattle.dimacs.specs.declared.fault.Code.TheVariants.{BadLine, NoProblemLine, NumberRange, NodeRange}
 use Rattle.dimacs.specs.declared.fault.Fault.{Fault}
-use Rattle.dimacs.specs.declared.numeral.Numeral.{Numeral}
+use Rattle.dimacs.specs.declared.numerals.numeral.Numeral.{Numeral}
 use Rattle.dimacs.specs.Format.{Format, ss}
 use Rattle.dimacs.specs.Landmarks.{node_from, AreNodes}
 use Rattle.dimacs.specs.Listed.{ReadsItem, code_after, items_in, text_of_items}

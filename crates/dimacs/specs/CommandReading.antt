@@ -2,12 +2,12 @@
 use Rattle.std.specs.Prelude.{◌≡◌, ℕ, ◌||◌, true, false, List, ◌∷◌, Option, None, Some, Result, Ok, Err, if◌then◌else◌}
 use lib.Chars.{codes}
 use Rattle.roadnet.specs.declared.commands.Command.{Command}
-use Rattle.dimacs.specs.declared.commands.Bound.{Bound}
-use Rattle.dimacs.specs.declared.commands.Bound.TheVariants.{Begin, End, Other}
-use Rattle.dimacs.specs.declared.commands.GroupLines.{GroupLines}
-use Rattle.dimacs.specs.declared.commands.Kind.{Kind}
-use Rattle.dimacs.specs.declared.commands.Kind.TheVariants.{Ignored, Set, Lay, One, Unknown}
-use Rattle.dimacs.specs.declared.numeral.Numeral.{Numeral}
+use Rattle.dimacs.specs.declared.commands.group_lines.Bound.{Bound}
+use Rattle.dimacs.specs.declared.commands.group_lines.Bound.TheVariants.{Begin, End, Other}
+use Rattle.dimacs.specs.declared.commands.group_lines.GroupLines.{GroupLines}
+use Rattle.dimacs.specs.declared.commands.group_lines.Kind.{Kind}
+use Rattle.dimacs.specs.declared.commands.group_lines.Kind.TheVariants.{Ignored, Set, Lay, One, Unknown}
+use Rattle.dimacs.specs.declared.numerals.numeral.Numeral.{Numeral}
 use Rattle.dimacs.specs.declared.fault.Code.{Code}
 use Rattle.dimacs.specs.declared.fault.Code.TheVariants.{BadLine, NumberRange}
 use Rattle.dimacs.specs.Lines.{fields}

@@ -2,7 +2,7 @@
 use Rattle.std.specs.Prelude.{◌≡◌, ℕ, ◌+◌, ◌-◌, ◌^◌, min, List, [], ◌∷◌, Option, None, Some, Result, Ok, Err}
 use Rattle.std.specs.Io.KnownBytes.{Keeps, Consumes, IsAtEnd}
 use Rattle.dimacs.specs.declared.fault.Fault.{Fault}
-use Rattle.dimacs.specs.declared.counted.Counted.{Counted}
+use Rattle.dimacs.specs.declared.lines.counted.Counted.{Counted}
 use Rattle.dimacs.specs.Taking.{ByCode}
 
 -- the count, the reader, and the name by which it is known to be the same reader

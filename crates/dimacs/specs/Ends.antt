@@ -2,7 +2,7 @@
 use Rattle.std.specs.Prelude.{◌≡◌, ℕ, ◌+◌, ◌-◌, ◌<◌, ◌≤◌, Bool, ◌&&◌, List, [], length, take, count_by, Option, None, Some, Result, Ok, Err}
 use Rattle.std.specs.Io.KnownBytes.{Consumes}
 use Rattle.dimacs.specs.declared.fault.Fault.{Fault}
-use Rattle.dimacs.specs.declared.feed.Ended.{Ended}
+use Rattle.dimacs.specs.declared.lines.feed.Ended.{Ended}
 use Rattle.dimacs.specs.Lines.{is_line_feed, rows}
 use Rattle.dimacs.specs.Faults.{Row, Judge, first_fault}
 use Rattle.dimacs.specs.Joint.{has_run, taken_of, left_of}

@@ -1,6 +1,6 @@
 -- What a `.p2p` text says.
 use Rattle.std.specs.Prelude.{ℕ, List}
-use Rattle.dimacs.specs.declared.pairs.Pair.{Pair}
+use Rattle.dimacs.specs.declared.lists.pairs.Pair.{Pair}
 use Rattle.dimacs.specs.Format.{p2p}
 use Rattle.dimacs.specs.Content.{size_at}
 use Rattle.dimacs.specs.Faults.{Row}

@@ -3,10 +3,10 @@ use Rattle.std.specs.Prelude.{◌≡◌, ◌≢◌, ◌<◌, ◌⊎◌, ℕ, Boo
 use Rattle.std.specs.List.{filter_map}
 use Rattle.std.specs.Io.BufRead.{strip_last}
 use Rattle.dimacs.specs.declared.fault.Code.{Code}
-use Rattle.dimacs.specs.declared.problem.Problem.{Problem}
-use Rattle.dimacs.specs.declared.gr_lines.GrLines.{GrLines}
-use Rattle.dimacs.specs.declared.feed.Feed.{Feed}
-use Rattle.dimacs.specs.declared.feed.TakenBytes.{TakenBytes}
+use Rattle.dimacs.specs.declared.graphs.problem.Problem.{Problem}
+use Rattle.dimacs.specs.declared.graphs.gr_lines.GrLines.{GrLines}
+use Rattle.dimacs.specs.declared.lines.feed.Feed.{Feed}
+use Rattle.dimacs.specs.declared.lines.feed.TakenBytes.{TakenBytes}
 use Rattle.dimacs.specs.Format.{gr}
 use Rattle.dimacs.specs.Lines.{is_line_feed, rows, fields}
 use Rattle.dimacs.specs.Faults.{Row, Judge, is_remark, problem_of, announced, items_of, first_fault, end_code}

@@ -5,10 +5,10 @@ use Rattle.std.specs.Str.{bytes_eq}
 use lib.Chars.{codes}
 use Rattle.roadnet.specs.declared.commands.Command.{Command}
 use Rattle.roadnet.specs.declared.commands.Command.TheVariants.{Close as close_arc, Reopen as reopen_arc, Mark as mark_node, Unmark as unmark_node}
-use Rattle.dimacs.specs.declared.words.OneNumber.{OneNumber}
-use Rattle.dimacs.specs.declared.words.OneNumber.TheVariants.{Close, Reopen, Mark, Unmark}
-use Rattle.dimacs.specs.declared.words.TwoNumbers.{TwoNumbers}
-use Rattle.dimacs.specs.declared.words.TwoNumbers.TheVariants.{Set, Dist, From, Lower}
+use Rattle.dimacs.specs.declared.commands.words.OneNumber.{OneNumber}
+use Rattle.dimacs.specs.declared.commands.words.OneNumber.TheVariants.{Close, Reopen, Mark, Unmark}
+use Rattle.dimacs.specs.declared.commands.words.TwoNumbers.{TwoNumbers}
+use Rattle.dimacs.specs.declared.commands.words.TwoNumbers.TheVariants.{Set, Dist, From, Lower}
 
 -- the one of these words that a field spells
 abbrev pub spelled_word : {W : Type 0} → (W → List ℕ) → List W → List ℕ → Option W

@@ -2,9 +2,9 @@
 use Rattle.std.specs.Prelude.{◌≡◌, ◌≢◌, ℕ, ◌+◌, ◌-◌, ◌^◌, ◌<◌, List, [], Option, None, Some, MatchBool, ⊤}
 use Rattle.dimacs.specs.declared.fault.Code.{Code}
 use Rattle.dimacs.specs.declared.fault.Code.TheVariants.{Read}
-use Rattle.dimacs.specs.declared.feed.Feed.{Feed}
-use Rattle.dimacs.specs.declared.counted.Turn.{Turn}
-use Rattle.dimacs.specs.declared.counted.Turn.TheVariants.{Failed, AtEnd, Took, Refused}
+use Rattle.dimacs.specs.declared.lines.feed.Feed.{Feed}
+use Rattle.dimacs.specs.declared.lines.counted.Turn.{Turn}
+use Rattle.dimacs.specs.declared.lines.counted.Turn.TheVariants.{Failed, AtEnd, Took, Refused}
 use Rattle.dimacs.specs.Faults.{Row, Judge}
 use Rattle.dimacs.specs.Counts.{one_more_failed}
 use Rattle.dimacs.specs.Progress.{Within, BeforeRun, StopsAt}

@@ -2,43 +2,29 @@
 #![tactic(auto)]
 
 mod commands;
-mod counted;
 mod fault;
-mod feed;
-mod front;
-mod gr;
-mod gr_lines;
-mod landmarks;
+mod graphs;
 mod laws;
-mod line;
-mod listed;
-mod nodes;
-mod numeral;
-mod numeral_end;
-mod open_group;
-mod pairs;
-mod problem;
-mod reading;
-mod taking;
-mod text;
-mod words;
+mod lines;
+mod lists;
+mod numerals;
 
-pub use commands::{
+pub use commands::group_lines::{
     Bound, bound_of, is_blank, number, parse_commands, read_command, read_commands, three_numbers,
     two_numbers,
 };
-pub use counted::Counted;
+pub use commands::open_group::OpenGroup;
+pub use commands::words::{OneNumber, TwoNumbers, word_of_one, word_of_two};
 pub use fault::{Code, Fault};
-pub use feed::Ended;
-pub use gr::{parse_gr, read_gr, read_gr_before_run};
-pub use landmarks::{parse_ss, read_ss};
+pub use graphs::gr::{parse_gr, read_gr, read_gr_before_run};
+pub use graphs::reading::split_one;
 pub use laws::first_fault_is_first;
-pub use line::split_field;
-pub use nodes::read_nodes;
-pub use numeral::Numeral;
-pub use open_group::OpenGroup;
-pub use pairs::{Pair, parse_p2p, read_p2p};
-pub use reading::split_one;
-pub use taking::TakeLines;
-pub use text::Text;
-pub use words::{OneNumber, TwoNumbers, word_of_one, word_of_two};
+pub use lines::counted::Counted;
+pub use lines::feed::Ended;
+pub use lines::line::split_field;
+pub use lines::taking::TakeLines;
+pub use lines::text::Text;
+pub use lists::landmarks::{parse_ss, read_ss};
+pub use lists::nodes::read_nodes;
+pub use lists::pairs::{Pair, parse_p2p, read_p2p};
+pub use numerals::numeral::Numeral;

@@ -5,8 +5,8 @@ use Rattle.roadnet.specs.declared.refusals.Refusal.{Refusal}
 use Rattle.roadnet.specs.declared.refusals.Refusal.TheVariants.{OutOfMemory}
 use Rattle.roadnet.specs.declared.groups.Group.{Group}
 use Rattle.machine.specs.declared.calls.Ticket.{Ticket}
-use Rattle.store.specs.declared.parts.Part.{Part}
-use Rattle.store.specs.declared.parts.Part.TheVariants.{Going, Done}
+use Rattle.store.specs.declared.paged.parts.Part.{Part}
+use Rattle.store.specs.declared.paged.parts.Part.TheVariants.{Going, Done}
 
 -- the version that a checkpoint which is done holds
 abbrev pub done_version : Part → Option ℕ

@@ -13,8 +13,8 @@ use Rattle.machine.specs.declared.events.Writing.{Writing}
 use Rattle.machine.specs.declared.events.Writing.TheVariants.{Flush as a_flush, Checkpoint as a_checkpoint, Step as a_step}
 use Rattle.machine.specs.Machine.{Machine}
 use Rattle.machine.specs.Lives.{Turn, told_version, told_part, Writes}
-use Rattle.store.specs.declared.parts.Part.{Part}
-use Rattle.store.specs.declared.parts.Part.TheVariants.{Going, Done}
+use Rattle.store.specs.declared.paged.parts.Part.{Part}
+use Rattle.store.specs.declared.paged.parts.Part.TheVariants.{Going, Done}
 use Rattle.keeper.specs.Parts.{told_as}
 use Rattle.machine.proofs.Rehearsing.{events_more, replies_more}
 use Rattle.lives.specs.Failures.{is_of_stop, IsAnswered, failures_by, failures_of_stop, failures_after, failures_in, failures_at_end, FailsAsTold, EndsAsTold}

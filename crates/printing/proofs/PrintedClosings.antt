@@ -6,7 +6,7 @@ use Rattle.std.proofs.lemmas.Bool.{le-ltb}
 use lib.Chars.{codes}
 use Rattle.roadnet.specs.declared.commands.Command.{Command}
 use Rattle.roadnet.specs.declared.commands.Command.TheVariants.{Close as close_arc}
-use Rattle.dimacs.specs.declared.words.OneNumber.TheVariants.{Close}
+use Rattle.dimacs.specs.declared.commands.words.OneNumber.TheVariants.{Close}
 use Rattle.dimacs.specs.Commanded.{Grouping, group_code, group_text, grouping_of}
 use Rattle.dimacs.specs.CommandReading.{number_read}
 use Rattle.dimacs.specs.Faults.{Row, first_fault}

@@ -8,7 +8,7 @@ use Rattle.std.proofs.lemmas.List.Elements.{recursion_from_All}
 use lib.Chars.{codes}
 use Rattle.roadnet.specs.Members.{set_of}
 use Rattle.roadnet.specs.Net.{Net, IsNetwork, most_nodes}
-use Rattle.dimacs.specs.declared.numeral.Numeral.{Numeral}
+use Rattle.dimacs.specs.declared.numerals.numeral.Numeral.{Numeral}
 use Rattle.dimacs.specs.declared.fault.Code.TheVariants.{LineCount, NoProblemLine}
 use Rattle.dimacs.specs.Faults.{Row, problem_of, announced_items, items_of, is_unreadable, applies, code_of, first_fault}
 use Rattle.dimacs.specs.Format.{Node, ss}

@@ -8,8 +8,8 @@ use Rattle.std.proofs.lemmas.List.Elements.{recursion_from_All}
 use lib.Chars.{codes}
 use Rattle.roadnet.specs.declared.arcs.RoadArc.{RoadArc}
 use Rattle.roadnet.specs.Net.{Net, IsNetwork, IsArcAmong, most_nodes, most_arcs, longest_arc}
-use Rattle.dimacs.specs.declared.numeral.Numeral.{Numeral}
-use Rattle.dimacs.specs.declared.problem.Problem.{Problem}
+use Rattle.dimacs.specs.declared.numerals.numeral.Numeral.{Numeral}
+use Rattle.dimacs.specs.declared.graphs.problem.Problem.{Problem}
 use Rattle.dimacs.specs.Content.{arc_from, arc_of, network_of, content_of}
 use Rattle.dimacs.specs.Faults.{Row, problem_of, announced, items_of, applies, code_of, first_fault, end_code}
 use Rattle.dimacs.specs.Format.{gr}

@@ -2,7 +2,7 @@
 use Rattle.std.specs.Prelude.{ℕ, List, [], ◌∷◌, ◌++◌, length, decimal}
 use Rattle.std.specs.List.{flat_map}
 use lib.Chars.{codes}
-use Rattle.deltastep.specs.declared.known.NodeDistance.{NodeDistance}
+use Rattle.deltastep.specs.declared.rows.known.NodeDistance.{NodeDistance}
 use Rattle.rows.specs.declared.queries.Query.TheVariants.{Dist}
 use Rattle.rows.specs.declared.queries.Reply.{Reply}
 use Rattle.rows.specs.declared.queries.Reply.TheVariants.{Length}

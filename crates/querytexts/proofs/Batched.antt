@@ -5,7 +5,7 @@ use Rattle.std.proofs.KnownBytes.{Appends-trans}
 use Rattle.std.proofs.lemmas.List.{take_more, length-take-le}
 use Rattle.std.proofs.lemmas.Slice.Zip.{all_zipped_more}
 use Rattle.roadnet.specs.Net.{Net}
-use Rattle.dimacs.specs.declared.pairs.Pair.{Pair}
+use Rattle.dimacs.specs.declared.lists.pairs.Pair.{Pair}
 use Rattle.rows.specs.declared.queries.Query.{Query}
 use Rattle.rows.specs.declared.queries.Reply.{Reply}
 use Rattle.rows.specs.Replies.{IsRight}

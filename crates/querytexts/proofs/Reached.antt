@@ -14,7 +14,7 @@ use Rattle.printing.specs.Printed.{version_line, refusal_line}
 use Rattle.roadnet.specs.Reversal.{reversed}
 use Rattle.roadnet.proofs.Apart.{least_is_bounded}
 use Rattle.snapshot.specs.Groups.{Groups, IsSnapshotOf}
-use Rattle.deltastep.specs.declared.known.NodeDistance.{NodeDistance}
+use Rattle.deltastep.specs.declared.rows.known.NodeDistance.{NodeDistance}
 use Rattle.deltastep.specs.Reach.{AreWithin, IsReach as IsReachOf, IsReachTo, told_as}
 use Rattle.querytexts.specs.declared.reaches.Reach.{Reach}
 use Rattle.querytexts.specs.declared.reaches.Reach.TheVariants.{From, To}

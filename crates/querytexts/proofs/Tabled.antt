@@ -2,7 +2,7 @@
 use Rattle.std.proofs.Common.{◌≡◌, ◌∙◌, ℕ, ◌+◌, ◌<◌, List, [], ◌∷◌, ◌++◌, length, get_or, take, ap, sym, append-nil}
 use Rattle.std.proofs.lemmas.Grind.{flat_map-append}
 use Rattle.std.proofs.lemmas.List.{take_more}
-use Rattle.dimacs.specs.declared.pairs.Pair.{Pair}
+use Rattle.dimacs.specs.declared.lists.pairs.Pair.{Pair}
 use Rattle.querytexts.specs.Table.{pairs_from, pairs_between}
 
 pub row_more : (sources targets : List ℕ) (i d : ℕ) → i < length sources

@@ -13,7 +13,7 @@ use Rattle.roadnet.specs.declared.refusals.Refusal.TheVariants.{Write, OutOfMemo
 use Rattle.snapshot.specs.Groups.{Groups, IsSnapshotOf}
 use Rattle.dimacs.specs.Content.{gr_text}
 use Rattle.dimacs.specs.Texts.{Source, FaultOf}
-use Rattle.deltastep.specs.declared.known.NodeDistance.{NodeDistance}
+use Rattle.deltastep.specs.declared.rows.known.NodeDistance.{NodeDistance}
 use Rattle.deltastep.specs.Reach.{told_as}
 use Rattle.rows.specs.declared.queries.Query.{Query}
 use Rattle.rows.specs.declared.queries.Query.TheVariants.{Dist}

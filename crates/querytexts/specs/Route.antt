@@ -5,7 +5,7 @@ use Rattle.std.specs.Io.KnownBytes.{Appends}
 use Rattle.roadnet.specs.Net.{Net}
 use Rattle.routes.specs.declared.replies.RouteReply.{RouteReply}
 use Rattle.routes.specs.RouteReplies.{IsRightRoute}
-use Rattle.dimacs.specs.declared.pairs.Pair.{Pair}
+use Rattle.dimacs.specs.declared.lists.pairs.Pair.{Pair}
 use Rattle.printing.specs.Printed.{version_line}
 use Rattle.printing.specs.RouteLines.{route_lines}
 use Rattle.querytexts.specs.Batch.{AnswersAll}

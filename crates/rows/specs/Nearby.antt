@@ -4,7 +4,7 @@ use Rattle.std.specs.List.{list_all}
 use Rattle.roadnet.specs.declared.refusals.Refusal.{Refusal}
 use Rattle.roadnet.specs.declared.refusals.Refusal.TheVariants.{NoSuchNode, OutOfMemory}
 use Rattle.roadnet.specs.Net.{Net}
-use Rattle.deltastep.specs.declared.known.NodeDistance.{NodeDistance}
+use Rattle.deltastep.specs.declared.rows.known.NodeDistance.{NodeDistance}
 use Rattle.deltastep.specs.Reach.{AreNearest, IsReach, IsReachTo}
 use Rattle.rows.specs.Replies.{are_nodes}
 use Rattle.rows.specs.declared.nearby.Near.{Near}

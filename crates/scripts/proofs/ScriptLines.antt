@@ -4,11 +4,11 @@ use Rattle.std.proofs.lemmas.Bool.{eqb-true, lt-ltb, ne_eqb}
 use lib.Chars.{codes}
 use Rattle.dimacs.specs.declared.fault.Code.{Code}
 use Rattle.dimacs.specs.declared.fault.Code.TheVariants.{BadLine, NumberRange}
-use Rattle.dimacs.specs.declared.numeral.Numeral.{Numeral}
-use Rattle.dimacs.specs.declared.words.OneNumber.{OneNumber}
-use Rattle.dimacs.specs.declared.words.OneNumber.TheVariants.{Close, Reopen, Mark, Unmark}
-use Rattle.dimacs.specs.declared.words.TwoNumbers.{TwoNumbers}
-use Rattle.dimacs.specs.declared.words.TwoNumbers.TheVariants.{Set, Dist, From, Lower}
+use Rattle.dimacs.specs.declared.numerals.numeral.Numeral.{Numeral}
+use Rattle.dimacs.specs.declared.commands.words.OneNumber.{OneNumber}
+use Rattle.dimacs.specs.declared.commands.words.OneNumber.TheVariants.{Close, Reopen, Mark, Unmark}
+use Rattle.dimacs.specs.declared.commands.words.TwoNumbers.{TwoNumbers}
+use Rattle.dimacs.specs.declared.commands.words.TwoNumbers.TheVariants.{Set, Dist, From, Lower}
 use Rattle.dimacs.specs.Commands.{form, form_of, is_refused, command_code}
 use Rattle.dimacs.specs.CommandReading.{number_read, numbers_read, three_read}
 use Rattle.dimacs.specs.Content.{size_at}

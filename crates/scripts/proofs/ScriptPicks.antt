@@ -12,7 +12,7 @@ use Rattle.std.proofs.lemmas.Slice.Eq.{bytes_eq-Decides}
 use lib.Chars.{codes}
 use Rattle.dimacs.specs.declared.fault.Code.{Code}
 use Rattle.dimacs.specs.declared.fault.Code.TheVariants.{NumberRange}
-use Rattle.dimacs.specs.declared.numeral.Numeral.{Numeral}
+use Rattle.dimacs.specs.declared.numerals.numeral.Numeral.{Numeral}
 use Rattle.dimacs.specs.Commands.{is_refused}
 use Rattle.dimacs.specs.Faults.{Row, has_first, some_numeral}
 use Rattle.dimacs.specs.Lines.{fields}

@@ -4,10 +4,10 @@ use Rattle.std.specs.List.{prefix_len}
 use Rattle.std.specs.Str.{bytes_eq}
 use lib.Chars.{codes}
 use Rattle.roadnet.specs.declared.commands.Command.TheVariants.{Set as set_arc, Lay as lay_arc}
-use Rattle.dimacs.specs.declared.numeral.Numeral.{Numeral}
-use Rattle.dimacs.specs.declared.words.OneNumber.{OneNumber}
-use Rattle.dimacs.specs.declared.words.TwoNumbers.{TwoNumbers}
-use Rattle.dimacs.specs.declared.words.TwoNumbers.TheVariants.{Set, Dist, From, Lower}
+use Rattle.dimacs.specs.declared.numerals.numeral.Numeral.{Numeral}
+use Rattle.dimacs.specs.declared.commands.words.OneNumber.{OneNumber}
+use Rattle.dimacs.specs.declared.commands.words.TwoNumbers.{TwoNumbers}
+use Rattle.dimacs.specs.declared.commands.words.TwoNumbers.TheVariants.{Set, Dist, From, Lower}
 use Rattle.dimacs.specs.declared.fault.Code.{Code}
 use Rattle.dimacs.specs.declared.fault.Code.TheVariants.{BadLine, NumberRange}
 use Rattle.dimacs.specs.Commands.{form_of}

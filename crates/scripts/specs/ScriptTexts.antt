@@ -4,7 +4,7 @@ use Rattle.std.specs.List.{cons_option, find, prefix_len, take_while}
 use Rattle.std.specs.Str.{bytes_eq}
 use lib.Chars.{codes}
 use Rattle.roadnet.specs.declared.commands.Command.{Command}
-use Rattle.dimacs.specs.declared.numeral.Numeral.{Numeral}
+use Rattle.dimacs.specs.declared.numerals.numeral.Numeral.{Numeral}
 use Rattle.dimacs.specs.declared.fault.Code.{Code}
 use Rattle.dimacs.specs.declared.fault.Code.TheVariants.{BadLine, NumberRange, OpenGroup}
 use Rattle.dimacs.specs.Commands.{Form, form, commands, is_refused, command_code}

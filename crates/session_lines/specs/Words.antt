@@ -12,7 +12,7 @@ use Rattle.session_lines.specs.declared.words.One.{One}
 use Rattle.session_lines.specs.declared.words.One.TheVariants.{Common as one_common, Arc, Until}
 use Rattle.session_lines.specs.declared.words.Two.{Two}
 use Rattle.session_lines.specs.declared.words.Two.TheVariants.{Common as two_common, Arcs, Reach, Reached, Nearest, Route}
-use Rattle.dimacs.specs.declared.words.TwoNumbers.TheVariants.{Set, Dist, From, Lower}
+use Rattle.dimacs.specs.declared.commands.words.TwoNumbers.TheVariants.{Set, Dist, From, Lower}
 use Rattle.dimacs.specs.Spelling.{one_command}
 use Rattle.dimacs.specs.declared.fault.Code.{Code}
 use Rattle.dimacs.specs.declared.fault.Code.TheVariants.{BadLine, NumberRange}

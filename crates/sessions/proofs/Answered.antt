@@ -19,7 +19,7 @@ use Rattle.rows.specs.declared.nearby.Near.{Near}
 use Rattle.desk.specs.Turns.{IsUnserved}
 use Rattle.rows.specs.Views.{AreRight, Viewed}
 use Rattle.roadnet.specs.Step.{is_node}
-use Rattle.deltastep.specs.declared.known.NodeDistance.{NodeDistance}
+use Rattle.deltastep.specs.declared.rows.known.NodeDistance.{NodeDistance}
 use Rattle.rows.specs.Nearby.{IsNear, IsUntold, are_pairs, node_of}
 use Rattle.roadnet.specs.Net.{Net}
 use Rattle.machine.specs.declared.events.Replied.TheVariants.{Durable, Refused as told_refused}

@@ -16,7 +16,7 @@ use Rattle.rows.specs.declared.queries.Query.{Query}
 use Rattle.rows.specs.declared.queries.Reply.{Reply}
 use Rattle.rows.specs.Replies.{IsRight, are_nodes}
 use Rattle.rows.specs.Views.{AreRight, Viewed}
-use Rattle.deltastep.specs.declared.known.NodeDistance.{NodeDistance}
+use Rattle.deltastep.specs.declared.rows.known.NodeDistance.{NodeDistance}
 use Rattle.history.specs.Origins.{Origin}
 use Rattle.office.specs.declared.naming.Naming.{Ghosts}
 use Rattle.rows.specs.declared.nearby.Near.{Near}

@@ -1,7 +1,7 @@
 -- What a client that was served is told.
 use Rattle.std.specs.Prelude.{ℕ, Bool, List, Option, Result, IfErr, IfSome}
 use Rattle.dimacs.specs.Counts.{reader_of}
-use Rattle.dimacs.specs.declared.counted.Counted.{Counted}
+use Rattle.dimacs.specs.declared.lines.counted.Counted.{Counted}
 use Rattle.history.specs.Origins.{Origin}
 use Rattle.office.specs.declared.naming.Naming.{Ghosts}
 use Rattle.printing.specs.declared.failed.Failed.{Failed}

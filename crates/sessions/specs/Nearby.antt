@@ -5,7 +5,7 @@ use Rattle.roadnet.specs.declared.refusals.Refusal.{Refusal}
 use Rattle.roadnet.specs.Net.{Net}
 use Rattle.roadnet.specs.Numbers.{number_of}
 use Rattle.roadnet.specs.Step.{after, is_node}
-use Rattle.deltastep.specs.declared.known.NodeDistance.{NodeDistance}
+use Rattle.deltastep.specs.declared.rows.known.NodeDistance.{NodeDistance}
 use Rattle.rows.specs.declared.queries.Reply.{Reply}
 use Rattle.rows.specs.Views.{AreRight}
 use Rattle.history.specs.Origins.{Origin}

@@ -20,7 +20,7 @@ use Rattle.rows.specs.declared.queries.Query.TheVariants.{Lower}
 use Rattle.rows.specs.declared.queries.Reply.{Reply}
 use Rattle.rows.specs.Replies.{IsRight}
 use Rattle.rows.specs.Views.{AreRight}
-use Rattle.deltastep.specs.declared.known.NodeDistance.{NodeDistance}
+use Rattle.deltastep.specs.declared.rows.known.NodeDistance.{NodeDistance}
 use Rattle.rows.specs.declared.nearby.Near.{Near}
 use Rattle.rows.specs.Nearby.{node_of, IsNear, IsUntold}
 use Rattle.printing.specs.Nodes.{pair_lines}

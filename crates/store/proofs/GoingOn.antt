@@ -22,7 +22,7 @@ use Rattle.storefile.proofs.Rests.{stored_as, standing_is}
 use Rattle.storefile.proofs.Torn.{head_below}
 use Rattle.checkpoint.specs.Writing.{Draft, head_of, slot_at, slot_size, slot_gate, slot_page_at, HoldsPages, IsSlotShut, IsSlotWhole, IsSlotShutOrWhole}
 use Rattle.checkpoint.proofs.SlotHeld.{holds_slot, gate_shut, while_beginning}
-use Rattle.store.specs.declared.going.GoingCheckpoint.{GoingCheckpoint}
+use Rattle.store.specs.declared.paged.going.GoingCheckpoint.{GoingCheckpoint}
 use Rattle.store.specs.Committing.{HasTidyStanding}
 use Rattle.store.specs.Going.{FitsStore, GoesOn, with_one_more}
 use Rattle.store.proofs.Checkpointed.{still_stands, shut_told, shut_tidily, shut_stands, nodes_told, room_told}

@@ -11,7 +11,7 @@ use Rattle.pages.specs.declared.header.Header.{Header}
 use Rattle.pages.specs.Layout.{slot_pages}
 use Rattle.storefile.specs.StoreFile.{StandsTidyFor}
 use Rattle.storefile.specs.Standing.{IsBeforeOrAfter}
-use Rattle.store.specs.declared.paged.Paged.{Paged}
+use Rattle.store.specs.declared.paged.state.Paged.{Paged}
 use Rattle.store.specs.Committing.{MayRefuseCommit, refusal_of_commit}
 use Rattle.store.specs.Checkpointing.{MayRefuseCheckpoint, refusal_of_checkpoint}
 use Rattle.store.specs.Durable.{told_by}

@@ -6,7 +6,7 @@ use Rattle.disk.specs.declared.disk.Disk.{Ghosts}
 use Rattle.roadnet.specs.Net.{Net}
 use Rattle.pages.specs.declared.content.Format.TheVariants.{Two}
 use Rattle.storefile.specs.Standing.{HasFitNumbers}
-use Rattle.store.specs.declared.paged.Paged.{Paged}
+use Rattle.store.specs.declared.paged.state.Paged.{Paged}
 use Rattle.store.specs.Resting.{IsAtRest}
 use Rattle.store.specs.Going.{FitsStore, GoesOn}
 

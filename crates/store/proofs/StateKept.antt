@@ -13,7 +13,7 @@ use Rattle.pages.specs.Layout.{word_pages, end_pages, slot_pages}
 use Rattle.storefile.specs.StoreFile.{StandsTidyFor}
 use Rattle.storefile.specs.Standing.{Standing, IsStoredAs, standing_of}
 use Rattle.storefile.proofs.Rests.{standing_is}
-use Rattle.store.specs.declared.paged.Paged.{Paged}
+use Rattle.store.specs.declared.paged.state.Paged.{Paged}
 use Rattle.store.specs.Committing.{HasTidyStanding, MayRefuseCommit, refusal_of_commit}
 use Rattle.store.specs.Checkpointing.{refusal_of_checkpoint}
 use Rattle.store.specs.Durable.{told_by, going_of, KeepsTold}

@@ -3,7 +3,7 @@ use Rattle.std.specs.Prelude.{◌≡◌, ◌≤◌, Bool, false, ◌&&◌, ◌==
 use Rattle.disk.specs.declared.disk.Disk.{Ghosts}
 use Rattle.pages.specs.Layout.{slot_pages}
 use Rattle.storefile.specs.Standing.{Standing, standing_of}
-use Rattle.store.specs.declared.paged.Paged.{Paged}
+use Rattle.store.specs.declared.paged.state.Paged.{Paged}
 use Rattle.store.specs.Going.{Progress, progress_of}
 use Rattle.store.specs.Opening.{standing_by}
 

@@ -9,9 +9,9 @@ use Rattle.pages.specs.Layout.{other, slot_pages}
 use Rattle.storefile.specs.StoreFile.{page}
 use Rattle.storefile.specs.Standing.{LeadsTo}
 use Rattle.checkpoint.specs.Writing.{Draft, slot_gate, HoldsPages}
-use Rattle.store.specs.declared.going.GoingCheckpoint.{GoingCheckpoint}
-use Rattle.store.specs.declared.parts.Part.{Part}
-use Rattle.store.specs.declared.parts.Part.TheVariants.{Going, Done}
+use Rattle.store.specs.declared.paged.going.GoingCheckpoint.{GoingCheckpoint}
+use Rattle.store.specs.declared.paged.parts.Part.{Part}
+use Rattle.store.specs.declared.paged.parts.Part.TheVariants.{Going, Done}
 
 -- ---- what callers see
 

@@ -3,7 +3,7 @@ use Rattle.std.specs.Prelude.{ℕ, List}
 use Rattle.roadnet.specs.Net.{Net}
 use Rattle.pages.specs.declared.header.Header.{Header}
 use Rattle.storefile.specs.Standing.{IsStoredAs}
-use Rattle.store.specs.declared.standing.Standing.{Standing}
+use Rattle.store.specs.declared.stores.standing.Standing.{Standing}
 
 -- The file stands for this network at this version, and so: it has this current slot of this epoch, and so many pages of its journal are
 -- unchecked.

@@ -2,7 +2,7 @@
 use Rattle.std.specs.Prelude.{◌≡◌, ◌⊎◌, ◌≤◌, Some, ℕ, ◌+◌, ◌*◌, nat_le, ◌==◌, List, length, Result, Ok}
 use Rattle.storefile.specs.StoreFile.{page, joined, StandsFor}
 use Rattle.storefile.specs.Standing.{Standing, HasFitNumbers}
-use Rattle.store.specs.declared.found.Found.{Found}
+use Rattle.store.specs.declared.opened.found.Found.{Found}
 use Rattle.roadnet.specs.declared.commands.Command.{Command}
 use Rattle.roadnet.specs.declared.refusals.Refusal.{Refusal}
 use Rattle.roadnet.specs.declared.refusals.Refusal.TheVariants.{NotAStore, WrongFormat, Damaged, OutOfMemory, Device}

@@ -10,7 +10,7 @@ use Rattle.pages.specs.Layout.{slot_pages}
 use Rattle.pagereader.specs.Outcomes.{failures_told}
 use Rattle.storefile.specs.StoreFile.{StandsTidyFor}
 use Rattle.storefile.specs.Standing.{standing_of, IsBeforeOrAfter}
-use Rattle.store.specs.declared.paged.Paged.{Paged}
+use Rattle.store.specs.declared.paged.state.Paged.{Paged}
 use Rattle.store.specs.Committing.{HasTidyStanding, refusal_of_commit, MayRefuseCommit}
 use Rattle.store.specs.Checkpointing.{refusal_of_checkpoint, MayRefuseCheckpoint}
 use Rattle.store.specs.Durable.{told_by, going_of}

@@ -12,7 +12,7 @@ use Rattle.pages.specs.Limits.{most_versions}
 use Rattle.pagereader.specs.Outcomes.{failures_with}
 use Rattle.storefile.specs.StoreFile.{StandsFor, StandsTidyFor}
 use Rattle.storefile.specs.Standing.{Standing, standing_of, IsBeforeOrAfter}
-use Rattle.store.specs.declared.paged.Paged.{Paged}
+use Rattle.store.specs.declared.paged.state.Paged.{Paged}
 use Rattle.store.specs.Committing.{HasTidyStanding, refusal_of_commit}
 use Rattle.store.specs.Durable.{going_of}
 use Rattle.store.specs.Going.{Progress}

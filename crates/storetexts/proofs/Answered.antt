@@ -4,7 +4,7 @@ use Rattle.std.specs.Prelude.{IfSome, OnOk, IfErr}
 use Rattle.roadnet.specs.declared.refusals.Refusal.TheVariants.{Write, OutOfMemory}
 use Rattle.roadnet.specs.Net.{Net}
 use Rattle.dimacs.specs.declared.fault.Fault.{Fault}
-use Rattle.dimacs.specs.declared.pairs.Pair.{Pair}
+use Rattle.dimacs.specs.declared.lists.pairs.Pair.{Pair}
 use Rattle.dimacs.specs.Lines.{rows}
 use Rattle.dimacs.specs.Pairs.{p2p_text}
 use Rattle.dimacs.specs.Texts.{Source, FaultOf, content_by, Reads}

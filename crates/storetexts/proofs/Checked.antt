@@ -9,7 +9,7 @@ use Rattle.printing.specs.Counting.{CountsFailure}
 use Rattle.printing.specs.Failing.{CountsWrites, LeavesUnwritten}
 use Rattle.printing.specs.declared.failed.Failed.{Failed}
 use Rattle.printing.specs.declared.failed.Failed.TheVariants.{Code}
-use Rattle.store.specs.declared.standing.Standing.{Standing}
+use Rattle.store.specs.declared.stores.standing.Standing.{Standing}
 use Rattle.store.specs.Inspecting.{HasStanding}
 use Rattle.storetexts.specs.Asked.{IsUnopened}
 use Rattle.storetexts.specs.Checked.{standing_lines, IsChecked, IsRefusedCheck}

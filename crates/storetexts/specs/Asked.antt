@@ -3,7 +3,7 @@ use Rattle.std.specs.Prelude.{◌≡◌, ◌⊎◌, ℕ, Bool, zero, suc, List, 
 use Rattle.roadnet.specs.declared.refusals.Refusal.{Refusal}
 use Rattle.roadnet.specs.declared.refusals.Refusal.TheVariants.{Write}
 use Rattle.roadnet.specs.Net.{Net}
-use Rattle.dimacs.specs.declared.pairs.Pair.{Pair}
+use Rattle.dimacs.specs.declared.lists.pairs.Pair.{Pair}
 use Rattle.dimacs.specs.Landmarks.{nodes_text}
 use Rattle.dimacs.specs.Pairs.{p2p_text}
 use Rattle.dimacs.specs.Texts.{Source, IsUnread, FaultOf}

@@ -10,7 +10,7 @@ use Rattle.printing.specs.Printed.{version_line}
 use Rattle.printing.specs.Replied.{number_line}
 use Rattle.printing.specs.declared.failed.Failed.{Failed}
 use Rattle.printing.specs.declared.failed.Failed.TheVariants.{Text, Code}
-use Rattle.store.specs.declared.standing.Standing.{Standing}
+use Rattle.store.specs.declared.stores.standing.Standing.{Standing}
 use Rattle.store.specs.Inspecting.{HasStanding}
 use Rattle.storetexts.specs.Asked.{IsUnopened}
 

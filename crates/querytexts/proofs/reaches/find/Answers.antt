@@ -6,7 +6,7 @@ use Rattle.roadnet.specs.Net.{Net, IsNetwork, IsNode}
 use Rattle.roadnet.specs.Reversal.{reversed}
 use Rattle.snapshot.specs.Groups.{IsSnapshotOf}
 use Rattle.deltastep.specs.Reach.{IsReach as IsReachOf, IsReachTo}
-use Rattle.deltastep.specs.declared.known.NodeDistance.{NodeDistance}
+use Rattle.deltastep.specs.declared.rows.known.NodeDistance.{NodeDistance}
 use Rattle.querytexts.specs.declared.reaches.Reach.{Reach}
 use Rattle.querytexts.specs.Reach.{AreGroupsFor, IsReach, center_of}
 use Rattle.querytexts.proofs.Reached.{found_from, found_to, most}

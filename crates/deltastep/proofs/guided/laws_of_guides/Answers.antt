@@ -1,5 +1,0 @@
-use Rattle.deltastep.proofs.Guiding.{consistent_is_lower_bound}
-use Rattle.deltastep.proofs.guided.laws_of_guides.Goals as goal
-
-pub returns : goal.returns
-returns c = record { consistent = consistent_is_lower_bound }

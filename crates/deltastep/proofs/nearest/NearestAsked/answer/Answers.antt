@@ -1,4 +1,0 @@
-use Rattle.deltastep.proofs.nearest.NearestAsked.answer.Goals as goal
-
-pub nearest_by-requires : goal.nearest_by-requires
-nearest_by-requires c = record { nodes = c.requires.suits.nodes; ascending = c.requires.suits.ascending; enough = c.requires.enough }

@@ -1,4 +1,0 @@
-use Rattle.deltastep.proofs.nearest.NearestAsked.is_enough.Goals as goal
-
-pub count_known-requires : goal.count_known-requires
-count_known-requires c = record { nodes = c.requires.suits.nodes }

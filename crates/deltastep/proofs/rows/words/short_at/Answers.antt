@@ -1,0 +1,10 @@
+use Rattle.std.proofs.Common.{Some, ◌∙◌, ap, arith}
+use Rattle.deltastep.specs.Words.{no_short_walk}
+use Rattle.deltastep.proofs.Entries.{entry_none, entry_some}
+use Rattle.deltastep.proofs.rows.words.short_at.Goals as goal
+
+pub returns-then-word : goal.returns-then-word
+returns-then-word c = entry_none no_short_walk c.args.words.now c.args.node (omega (arith, c.if-node-eq0.false)) (omega (arith, c.if-node-words.false)) c.if-word.true
+
+pub returns : goal.returns
+returns c = ap (λ w. Some w) c.from.ensures ∙ entry_some no_short_walk c.args.words.now c.args.node (omega (arith, c.if-node-eq0.false)) (omega (arith, c.if-node-words.false)) c.if-word.false

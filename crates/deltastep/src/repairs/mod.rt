@@ -1,0 +1,6 @@
+//! A row repaired after a change of some arcs.
+
+pub(crate) mod changed;
+mod near;
+pub(crate) mod repairing;
+mod untouched;

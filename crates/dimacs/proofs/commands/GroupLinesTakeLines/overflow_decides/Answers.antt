@@ -1,5 +1,0 @@
-use Rattle.dimacs.proofs.GroupCodes.{group_overflows}
-use Rattle.dimacs.proofs.commands.GroupLinesTakeLines.overflow_decides.Goals as goal
-
-pub returns : goal.returns
-returns c earlier before field after e other = group_overflows earlier before field after e other

@@ -1,5 +1,0 @@
-use Rattle.dimacs.proofs.GroupRows.{takes_remark}
-use Rattle.dimacs.proofs.commands.GroupLinesTakeLines.pass_comment.Goals as goal
-
-pub returns : goal.returns
-returns c earlier row e has = takes_remark earlier c.args.self.now has row e

@@ -1,0 +1,4 @@
+use Rattle.dimacs.proofs.lists.pairs.read_p2p.Given as goal
+
+abbrev pub ghosts-read_items : goal.ghosts-read_items
+ghosts-read_items g a = record { nodes = a.nodes }

@@ -1,4 +1,0 @@
-use Rattle.dimacs.proofs.pairs.read_p2p.Given as goal
-
-abbrev pub ghosts-read_items : goal.ghosts-read_items
-ghosts-read_items g a = record { nodes = a.nodes }

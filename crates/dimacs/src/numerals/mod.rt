@@ -1,0 +1,4 @@
+//! Numerals in lines.
+
+pub(crate) mod numeral;
+pub(crate) mod numeral_end;

@@ -21,5 +21,5 @@ has_node nodes node = list_any (λ x. node == x) nodes
 abbrev pub is_listed : Lists → ℕ → ℕ → Bool
 is_listed lists b node = option_map_or (λ nodes. has_node nodes.items node) (tree.get nat_cmp lists b) false
 
-abbrev pub AreListed : ℕ → Lists → Entries → Type 0
-AreListed width lists m = (node value : ℕ) → map.get m node ≡ Some value → is_listed lists (value / width) node ≡ true
+abbrev pub AreEntriesListed : ℕ → Lists → Entries → Type 0
+AreEntriesListed width lists m = (node value : ℕ) → map.get m node ≡ Some value → is_listed lists (value / width) node ≡ true

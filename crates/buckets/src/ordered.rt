@@ -1,6 +1,6 @@
 ghost use Rattle.std.specs.Prelude.{◌≡◌, ℕ, ◌≤◌, true, OnOk};
 ghost use Rattle.std.specs.FinMap as map;
-ghost use Rattle.buckets.specs.Lists.{AreListed, is_listed};
+ghost use Rattle.buckets.specs.Lists.{AreEntriesListed, is_listed};
 
 use crate::nodes::{NodeValues, is_in_bucket};
 use crate::queue::BucketQueue;
@@ -19,7 +19,7 @@ pub struct OrderedBuckets {
     nodes: NodeValues,
     lists: BTreeMap<u64, Vec<u32>>,
     ghost positive: { 1 ≤ delta },
-    ghost listed: { AreListed delta lists nodes },
+    ghost listed: { AreEntriesListed delta lists nodes },
 }
 
 impl OrderedBuckets {

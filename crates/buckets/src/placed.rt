@@ -3,7 +3,7 @@
 ghost use Rattle.std.specs.Prelude.{◌≡◌, ◌≢◌, ℕ, ◌+◌, ◌<◌, ◌≤◌, ◌^◌, ◌%◌, ◌++◌, ◌∷◌, [], set, Option, None, Some, IsTrue, ◌↔◌, OnOk, OnErr, IfOk, length, slice_index};
 ghost use Rattle.std.specs.List.{slice_get, swap_remove};
 ghost use Rattle.buckets.specs.Places.{place_bit};
-ghost use Rattle.buckets.specs.Rings.{AreFull, ArePlaced, IsMoved, IsPlacedIn, nodes_of};
+ghost use Rattle.buckets.specs.Rings.{AreFull, ArePlaced, IsNodeMoved, IsPlacedIn, bucket_nodes_of};
 
 use crate::places::Places;
 use std::alloc::{AllocError, Global};
@@ -15,7 +15,7 @@ const FEW_PLACES: usize = 8;
 /// This many empty lists.
 fn empty_lists(alloc: Global, size: u32) -> Result<Vec<Vec<u32>>, AllocError>
     ensures len { IfOk result (λ lists. length lists.items ≡ size) }
-    ensures empty { IfOk result (λ lists. (p : ℕ) → nodes_of lists.items p ≡ []) }
+    ensures empty { IfOk result (λ lists. (p : ℕ) → bucket_nodes_of lists.items p ≡ []) }
 {
     let mut lists = Vec::with_capacity(alloc, size as usize)?;
     for _place in 0..size {
@@ -27,7 +27,7 @@ fn empty_lists(alloc: Global, size: u32) -> Result<Vec<Vec<u32>>, AllocError>
 /// Whether the list has a node.
 fn has_nodes(lists: &Vec<Vec<u32>>, list: usize) -> bool
     requires { list < length lists.now.items }
-    ensures { IsTrue result ↔ (0 < length (nodes_of lists.now.items list)) }
+    ensures { IsTrue result ↔ (0 < length (bucket_nodes_of lists.now.items list)) }
 {
     !lists[list].is_empty()
 }
@@ -36,10 +36,10 @@ fn has_nodes(lists: &Vec<Vec<u32>>, list: usize) -> bool
 #[inline(always)]
 fn push(lists: &mut Vec<Vec<u32>>, list: usize, node: u32) -> Result<u32, AllocError>
     requires { list < length lists.old.items }
-    ensures added { OnOk result (nodes_of lists.new.items list ≡ nodes_of lists.old.items list ++ node ∷ []) }
-    ensures place { IfOk result (λ place. place ≡ length (nodes_of lists.old.items list)) }
-    ensures err { OnErr result (nodes_of lists.new.items list ≡ nodes_of lists.old.items list) }
-    ensures others { (p : ℕ) → p ≢ list → nodes_of lists.new.items p ≡ nodes_of lists.old.items p }
+    ensures added { OnOk result (bucket_nodes_of lists.new.items list ≡ bucket_nodes_of lists.old.items list ++ node ∷ []) }
+    ensures place { IfOk result (λ place. place ≡ length (bucket_nodes_of lists.old.items list)) }
+    ensures err { OnErr result (bucket_nodes_of lists.new.items list ≡ bucket_nodes_of lists.old.items list) }
+    ensures others { (p : ℕ) → p ≢ list → bucket_nodes_of lists.new.items p ≡ bucket_nodes_of lists.old.items p }
     ensures len { length lists.new.items ≡ length lists.old.items }
 {
     let place = lists[list].len();
@@ -54,11 +54,11 @@ fn push(lists: &mut Vec<Vec<u32>>, list: usize, node: u32) -> Result<u32, AllocE
 #[inline(always)]
 fn take_out(lists: &mut Vec<Vec<u32>>, places: &mut Vec<u32>, list: usize, place: u32)
     requires list { list < length lists.old.items }
-    requires place { place < length (nodes_of lists.old.items list) }
-    requires within { (i node : ℕ) → slice_get (nodes_of lists.old.items list) i ≡ Some node → node < length places.old.items }
-    ensures removed { nodes_of lists.new.items list ≡ swap_remove (nodes_of lists.old.items list) place 0 }
-    ensures others { (p : ℕ) → p ≢ list → nodes_of lists.new.items p ≡ nodes_of lists.old.items p }
-    ensures places { (last : ℕ) → last + 1 ≡ length (nodes_of lists.old.items list) → places.new.items ≡ set places.old.items (slice_index (nodes_of lists.old.items list) last) place }
+    requires place { place < length (bucket_nodes_of lists.old.items list) }
+    requires within { (i node : ℕ) → slice_get (bucket_nodes_of lists.old.items list) i ≡ Some node → node < length places.old.items }
+    ensures removed { bucket_nodes_of lists.new.items list ≡ swap_remove (bucket_nodes_of lists.old.items list) place 0 }
+    ensures others { (p : ℕ) → p ≢ list → bucket_nodes_of lists.new.items p ≡ bucket_nodes_of lists.old.items p }
+    ensures places { (last : ℕ) → last + 1 ≡ length (bucket_nodes_of lists.old.items list) → places.new.items ≡ set places.old.items (slice_index (bucket_nodes_of lists.old.items list) last) place }
     ensures len { length lists.new.items ≡ length lists.old.items }
 {
     let last = lists[list].len() - 1;
@@ -101,11 +101,11 @@ fn enlist(
     node: u32,
 ) -> Result<(), AllocError>
     requires { list < length lists.old.items }
-    ensures placed { OnOk result ((home there : ℕ → Option ℕ) → ArePlaced lists.old.items places.old.items home → home node ≡ None → IsMoved home node list there → ArePlaced lists.new.items places.new.items there) }
-    ensures added { OnOk result (nodes_of lists.new.items list ≡ nodes_of lists.old.items list ++ node ∷ []) }
+    ensures placed { OnOk result ((home there : ℕ → Option ℕ) → ArePlaced lists.old.items places.old.items home → home node ≡ None → IsNodeMoved home node list there → ArePlaced lists.new.items places.new.items there) }
+    ensures added { OnOk result (bucket_nodes_of lists.new.items list ≡ bucket_nodes_of lists.old.items list ++ node ∷ []) }
     ensures err { OnErr result ((home : ℕ → Option ℕ) → ArePlaced lists.old.items places.old.items home → ArePlaced lists.new.items places.new.items home) }
-    ensures same { OnErr result (nodes_of lists.new.items list ≡ nodes_of lists.old.items list) }
-    ensures others { (p : ℕ) → p ≢ list → nodes_of lists.new.items p ≡ nodes_of lists.old.items p }
+    ensures same { OnErr result (bucket_nodes_of lists.new.items list ≡ bucket_nodes_of lists.old.items list) }
+    ensures others { (p : ℕ) → p ≢ list → bucket_nodes_of lists.new.items p ≡ bucket_nodes_of lists.old.items p }
     ensures len { length lists.new.items ≡ length lists.old.items }
 {
     make_room(places, node)?;
@@ -126,11 +126,11 @@ fn relist(
     requires apart { from ≢ to }
     requires list { to < length lists.old.items }
     requires stands { IsPlacedIn lists.old.items places.old.items from node }
-    ensures placed { OnOk result ((home there : ℕ → Option ℕ) → ArePlaced lists.old.items places.old.items home → home node ≡ Some from → IsMoved home node to there → ArePlaced lists.new.items places.new.items there) }
-    ensures added { OnOk result (nodes_of lists.new.items to ≡ nodes_of lists.old.items to ++ node ∷ []) }
+    ensures placed { OnOk result ((home there : ℕ → Option ℕ) → ArePlaced lists.old.items places.old.items home → home node ≡ Some from → IsNodeMoved home node to there → ArePlaced lists.new.items places.new.items there) }
+    ensures added { OnOk result (bucket_nodes_of lists.new.items to ≡ bucket_nodes_of lists.old.items to ++ node ∷ []) }
     ensures err { OnErr result ((home : ℕ → Option ℕ) → ArePlaced lists.old.items places.old.items home → ArePlaced lists.new.items places.new.items home) }
-    ensures same { OnErr result ((p : ℕ) → nodes_of lists.new.items p ≡ nodes_of lists.old.items p) }
-    ensures others { (p : ℕ) → p ≢ from → p ≢ to → nodes_of lists.new.items p ≡ nodes_of lists.old.items p }
+    ensures same { OnErr result ((p : ℕ) → bucket_nodes_of lists.new.items p ≡ bucket_nodes_of lists.old.items p) }
+    ensures others { (p : ℕ) → p ≢ from → p ≢ to → bucket_nodes_of lists.new.items p ≡ bucket_nodes_of lists.old.items p }
     ensures len { length lists.new.items ≡ length lists.old.items }
 {
     let place = push(lists, to, node)?;
@@ -164,10 +164,10 @@ fn take_list(
 ) -> Result<(), AllocError>
     requires list { list < length lists.old.items }
     requires none { nodes.old.items ≡ [] }
-    ensures taken { OnOk result (nodes.new.items ≡ nodes_of lists.old.items list) }
-    ensures emptied { OnOk result (nodes_of lists.new.items list ≡ []) }
+    ensures taken { OnOk result (nodes.new.items ≡ bucket_nodes_of lists.old.items list) }
+    ensures emptied { OnOk result (bucket_nodes_of lists.new.items list ≡ []) }
     ensures err { OnErr result (lists.new ≡ lists.old) }
-    ensures others { (p : ℕ) → p ≢ list → nodes_of lists.new.items p ≡ nodes_of lists.old.items p }
+    ensures others { (p : ℕ) → p ≢ list → bucket_nodes_of lists.new.items p ≡ bucket_nodes_of lists.old.items p }
     ensures len { length lists.new.items ≡ length lists.old.items }
 {
     if lists[list].capacity() <= FEW_PLACES {
@@ -195,7 +195,7 @@ impl PlacedLists {
     /// This many empty lists. The only error is lack of memory.
     pub fn new(alloc: Global, size: u32) -> Result<PlacedLists, AllocError>
         ensures len { IfOk result (λ made. length made.lists.items ≡ size) }
-        ensures empty { IfOk result (λ made. (p : ℕ) → nodes_of made.lists.items p ≡ []) }
+        ensures empty { IfOk result (λ made. (p : ℕ) → bucket_nodes_of made.lists.items p ≡ []) }
     {
         let lists = empty_lists(alloc, size)?;
         Ok(PlacedLists {
@@ -217,7 +217,7 @@ impl PlacedLists {
     #[inline(always)]
     pub fn add(&mut self, list: usize, node: u32) -> Result<(), AllocError>
         requires { list < length self.old.lists.items }
-        ensures placed { OnOk result ((home there : ℕ → Option ℕ) → ArePlaced self.old.lists.items self.old.places.items home → home node ≡ None → IsMoved home node list there → ArePlaced self.new.lists.items self.new.places.items there) }
+        ensures placed { OnOk result ((home there : ℕ → Option ℕ) → ArePlaced self.old.lists.items self.old.places.items home → home node ≡ None → IsNodeMoved home node list there → ArePlaced self.new.lists.items self.new.places.items there) }
         ensures err { OnErr result ((home : ℕ → Option ℕ) → ArePlaced self.old.lists.items self.old.places.items home → ArePlaced self.new.lists.items self.new.places.items home) }
         ensures len { length self.new.lists.items ≡ length self.old.lists.items }
     {
@@ -232,7 +232,7 @@ impl PlacedLists {
         requires apart { from ≢ to }
         requires list { to < length self.old.lists.items }
         requires stands { IsPlacedIn self.old.lists.items self.old.places.items from node }
-        ensures placed { OnOk result ((home there : ℕ → Option ℕ) → ArePlaced self.old.lists.items self.old.places.items home → home node ≡ Some from → IsMoved home node to there → ArePlaced self.new.lists.items self.new.places.items there) }
+        ensures placed { OnOk result ((home there : ℕ → Option ℕ) → ArePlaced self.old.lists.items self.old.places.items home → home node ≡ Some from → IsNodeMoved home node to there → ArePlaced self.new.lists.items self.new.places.items there) }
         ensures err { OnErr result ((home : ℕ → Option ℕ) → ArePlaced self.old.lists.items self.old.places.items home → ArePlaced self.new.lists.items self.new.places.items home) }
         ensures len { length self.new.lists.items ≡ length self.old.lists.items }
     {
@@ -248,10 +248,10 @@ impl PlacedLists {
     pub fn take(&mut self, list: usize, nodes: &mut Vec<u32>) -> Result<(), AllocError>
         requires list { list < length self.old.lists.items }
         requires none { nodes.old.items ≡ [] }
-        ensures taken { OnOk result (nodes.new.items ≡ nodes_of self.old.lists.items list) }
-        ensures emptied { OnOk result (nodes_of self.new.lists.items list ≡ []) }
+        ensures taken { OnOk result (nodes.new.items ≡ bucket_nodes_of self.old.lists.items list) }
+        ensures emptied { OnOk result (bucket_nodes_of self.new.lists.items list ≡ []) }
         ensures err { OnErr result (self.new ≡ self.old) }
-        ensures others { (p : ℕ) → p ≢ list → nodes_of self.new.lists.items p ≡ nodes_of self.old.lists.items p }
+        ensures others { (p : ℕ) → p ≢ list → bucket_nodes_of self.new.lists.items p ≡ bucket_nodes_of self.old.lists.items p }
         ensures places { self.new.places ≡ self.old.places }
         ensures len { length self.new.lists.items ≡ length self.old.lists.items }
     {

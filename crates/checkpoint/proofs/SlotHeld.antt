@@ -4,14 +4,14 @@ use Rattle.std.specs.List.{All, AllByRecursion}
 use Rattle.std.proofs.lemmas.List.{length-map}
 use Rattle.std.proofs.lemmas.List.Elements.{All-take, All-drop, recursion_from_All, All-from_recursion}
 use Rattle.disk.specs.Contents.{Only}
-use Rattle.disk.specs.Gated.{IsOpen, IsShut, IsOldOrShut}
+use Rattle.disk.specs.Gated.{IsGateOpen, IsShut, IsOldOrShut}
 use Rattle.disk.proofs.Gates.{shut_wider}
 use Rattle.roadnet.specs.declared.arcs.RoadArc.{RoadArc}
 use Rattle.roadnet.specs.Net.{Net, IsNetwork, IsArcAmong}
 use Rattle.pages.specs.declared.header.Header.{Header}
 use Rattle.pages.specs.declared.content.Slot.{Slot}
 use Rattle.pages.specs.Contents.{Head}
-use Rattle.pages.specs.Spelling.{AreFit, IsWord, IsEnds, ends_of, word_of}
+use Rattle.pages.specs.Spelling.{AreHeadNumbersFit, IsWord, IsEnds, ends_of, word_of}
 use Rattle.std.specs.Prelude.{nat_lt}
 use Rattle.std.proofs.lemmas.Bool.Decides.{nat_tests}
 use Rattle.pages.specs.Layout.{EndsOf, page_number, places_in_use, word_pages}
@@ -30,10 +30,10 @@ module _ (h : Header) (slot : Slot) where
   while_beginning old c way = ⊎_elim (λ shut. inl (gate_shut old c shut)) (λ same. inr same) way
 
   -- the content itself, where its gate is closed
-  pub shut_itself : (c : List ℕ) → (IsOpen (slot_gate h slot) c → ⊥) → IsSlotShut h slot c c
+  pub shut_itself : (c : List ℕ) → (IsGateOpen (slot_gate h slot) c → ⊥) → IsSlotShut h slot c c
   shut_itself c closed = record { outside = record { same_length = refl; below = λ i lt. refl; above = λ i ge. refl }; closed = closed }
 
-  pub rests_shut : (content : List ℕ) (left : List ℕ → Type 0) → Only content left → (IsOpen (slot_gate h slot) content → ⊥) → LeavesSlotShut h slot content left
+  pub rests_shut : (content : List ℕ) (left : List ℕ → Type 0) → Only content left → (IsGateOpen (slot_gate h slot) content → ⊥) → LeavesSlotShut h slot content left
   rests_shut content left only closed c was = subst (λ (d : List ℕ). IsSlotShut h slot content d) (sym (only c was)) (shut_itself content closed)
 
   pub no_pages : (pages : ℕ → List ℕ) (net : Net) → HoldsPages pages h slot net 0
@@ -81,7 +81,7 @@ end_place h slot i = omega arith
 
 -- A slot that is written whole holds the network with this head.
 pub holds_slot : (h : Header) (slot : Slot) (head : Head) (net : Net) (old c : List ℕ) → IsSlotWhole h slot head net old c → IsNetwork net → net.nodes ≡ h.nodes → net.room ≡ h.room → h.arcs ≤ length net.arcs
-    → head.arcs ≡ length net.arcs → head.landmarks ≡ net.landmarks → AreFit head.epoch head.version head.next_sequence (length head.landmarks) → HoldsSlot (page c) h slot head net
+    → head.arcs ≡ length net.arcs → head.landmarks ≡ net.landmarks → AreHeadNumbersFit head.epoch head.version head.next_sequence (length head.landmarks) → HoldsSlot (page c) h slot head net
 holds_slot h slot head net old c whole is nodes room from arcs same numbers = record {
   head_is = record {
     fits = record {

@@ -22,7 +22,7 @@ use Rattle.pages.proofs.Heads.{length-fields}
 use Rattle.storefile.specs.StoreFile.{page, part}
 use Rattle.storefile.proofs.Meaning.{length-page_of, length-body}
 use Rattle.storefile.proofs.PageBytes.{page_byte, page_length, outside_pages, same_but, written_outside, written_page, gate_pages, gate_body, gate_opens}
-use Rattle.checkpoint.specs.Writing.{Draft, head_of, slot_at, slot_size, slot_gate, slot_page, slot_page_at, HoldsPages, IsSlotShut, LeavesSlotShut, IsSlotWhole, IsSlotShutOrWhole}
+use Rattle.checkpoint.specs.Writing.{Draft, draft_head_of, slot_at, slot_size, slot_gate, slot_page, slot_page_at, HoldsPages, IsSlotShut, LeavesSlotShut, IsSlotWhole, IsSlotShutOrWhole}
 
 -- ---- places
 
@@ -275,5 +275,5 @@ module _ (h : Header) (slot : Slot) (head : Head) (net : Net) (old mid b : List 
 
 -- the head's page, by what is told of the network
 pub same_head_page : (f : Format) (d : Draft) (net : Net) (n : ℕ) (xs : List ℕ) → n ≡ length net.arcs → xs ≡ net.landmarks
-    → head_page f (record { epoch = d.epoch; version = d.version; next_sequence = d.next_sequence; arcs = n; landmarks = xs }) ≡ head_page f (head_of d net)
+    → head_page f (record { epoch = d.epoch; version = d.version; next_sequence = d.next_sequence; arcs = n; landmarks = xs }) ≡ head_page f (draft_head_of d net)
 same_head_page f d net n xs p q = rw (p, q) refl

@@ -20,8 +20,8 @@ pub record Draft : Type 0 where
   pub written : ℕ
 
 -- its head, with the number of arcs and the landmarks of its network
-abbrev pub head_of : Draft → Net → Head
-head_of d net = record { epoch = d.epoch; version = d.version; next_sequence = d.next_sequence; arcs = length net.arcs; landmarks = net.landmarks }
+abbrev pub draft_head_of : Draft → Net → Head
+draft_head_of d net = record { epoch = d.epoch; version = d.version; next_sequence = d.next_sequence; arcs = length net.arcs; landmarks = net.landmarks }
 
 -- ---- the pages of a slot
 
@@ -86,10 +86,10 @@ IsSlotShutOrWhole h slot head net old c = IsSlotShut h slot old c ⊎ IsSlotWhol
 
 -- the same of the slot of a checkpoint that is being written, with its head
 abbrev pub IsDraftWhole : Header → Draft → Net → List ℕ → List ℕ → Type 0
-IsDraftWhole h d net old c = IsSlotWhole h d.slot (head_of d net) net old c
+IsDraftWhole h d net old c = IsSlotWhole h d.slot (draft_head_of d net) net old c
 
 abbrev pub IsDraftShutOrWhole : Header → Draft → Net → List ℕ → List ℕ → Type 0
-IsDraftShutOrWhole h d net old c = IsSlotShutOrWhole h d.slot (head_of d net) net old c
+IsDraftShutOrWhole h d net old c = IsSlotShutOrWhole h d.slot (draft_head_of d net) net old c
 
 -- this holds while the slot is not whole, and this once it is
 abbrev pub WhileGoing : Type 0 → Bool → Type 0

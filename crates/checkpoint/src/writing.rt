@@ -1,8 +1,8 @@
 // Writing a checkpoint, part by part.
 ghost use Rattle.std.specs.Prelude.{◌≡◌, ◌+◌, ◌-◌, ◌*◌, ◌<◌, ◌≤◌, ◌^◌, ◌↔◌, min, nat_lt, not, true, false, length, IfOk, OnOk, OnErr};
-ghost use Rattle.disk.specs.Calling.{Writes, WritesUnsynced};
+ghost use Rattle.disk.specs.Calling.{WritesDisk, WritesUnsynced};
 ghost use Rattle.disk.specs.Contents.{Only};
-ghost use Rattle.disk.specs.Gated.{IsOpen, IsOldOrShut};
+ghost use Rattle.disk.specs.Gated.{IsGateOpen, IsOldOrShut};
 ghost use Rattle.pages.specs.Layout.{other, slot_pages};
 ghost use Rattle.pagereader.specs.Reading.{HasFileOf};
 ghost use Rattle.storefile.specs.StoreFile.{page};
@@ -109,7 +109,7 @@ impl NextCheckpoint {
         // Only the gate may have changed in the content, and it is closed.
         ensures shut { D.honest disk.old → OnOk result (IsGateShut header.now self.now.slot (D.content disk.old) (D.content disk.new)) }
         // A stop during the call leaves the content as it was, or with that gate closed.
-        ensures writes { Writes D.Disk (IsOldOrShut (D.content disk.old) (slot_gate header.now self.now.slot)) result disk.old disk.new }
+        ensures writes { WritesDisk D.Disk (IsOldOrShut (D.content disk.old) (slot_gate header.now self.now.slot)) result disk.old disk.new }
     {
         close_gate(disk, gate_at(header, self.slot))
     }
@@ -171,7 +171,7 @@ impl NextCheckpoint {
         requires pages { D.honest disk.old → HoldsPages (page (D.content disk.old)) header.now self.now.slot network.now self.now.written }
         ensures content { D.honest disk.old → OnOk result (IsDraftWhole header.now self.now network.now (D.content disk.old) (D.content disk.new)) }
         // A stop during the call leaves the slot with a closed gate, or whole, and the rest of the content as it was.
-        ensures writes { Writes D.Disk (IsDraftShutOrWhole header.now self.now network.now (D.content disk.old)) result disk.old disk.new }
+        ensures writes { WritesDisk D.Disk (IsDraftShutOrWhole header.now self.now network.now (D.content disk.old)) result disk.old disk.new }
     {
         let page = encode_slot_head(
             header.format,
@@ -203,7 +203,7 @@ impl NextCheckpoint {
         requires few { max_pages ≤ 64 }
         requires within { self.old.written ≤ slot_pages header.now }
         requires at_rest { D.honest disk.old → Only (D.content disk.old) (D.left disk.old) }
-        requires closed { D.honest disk.old → IsOpen (slot_gate header.now self.old.slot) (D.content disk.old) → ⊥ }
+        requires closed { D.honest disk.old → IsGateOpen (slot_gate header.now self.old.slot) (D.content disk.old) → ⊥ }
         requires pages { D.honest disk.old → HoldsPages (page (D.content disk.old)) header.now self.old.slot network.now self.old.written }
         // The slot is whole if no more pages were left than this part may write.
         ensures answers { IfOk result (λ whole. nat_lt max_pages (slot_pages header.now - self.old.written) ≡ not whole) }
@@ -215,7 +215,7 @@ impl NextCheckpoint {
         ensures shut { D.honest disk.old → IfOk result (WhileGoing (IsSlotShut header.now self.old.slot (D.content disk.old) (D.content disk.new))) }
         ensures content { D.honest disk.old → IfOk result (OnceWhole (IsDraftWhole header.now self.old network.now (D.content disk.old) (D.content disk.new))) }
         // A stop during the call leaves the slot with a closed gate, or whole, and the rest of the content as it was.
-        ensures writes { Writes D.Disk (IsDraftShutOrWhole header.now self.old network.now (D.content disk.old)) result disk.old disk.new }
+        ensures writes { WritesDisk D.Disk (IsDraftShutOrWhole header.now self.old network.now (D.content disk.old)) result disk.old disk.new }
     {
         if self.pages_left(header) > u64::from(max_pages) {
             self.write_part(disk, header, network, max_pages)?;
@@ -269,7 +269,7 @@ impl NextCheckpoint {
         ensures same { self.new ≡ record self.old { written = self.new.written } }
         ensures content { D.honest disk.old → OnOk result (IsDraftWhole header.now self.old network.now (D.content disk.old) (D.content disk.new)) }
         // A stop during the call leaves the slot with a closed gate, or whole, and the rest of the content as it was.
-        ensures writes { Writes D.Disk (IsDraftShutOrWhole header.now self.old network.now (D.content disk.old)) result disk.old disk.new }
+        ensures writes { WritesDisk D.Disk (IsDraftShutOrWhole header.now self.old network.now (D.content disk.old)) result disk.old disk.new }
     {
         self.write_parts(disk, header, network, max_pages)?;
         self.finish(disk, header, network)
@@ -295,7 +295,7 @@ impl NextCheckpoint {
         ensures back { OnErr result (self.new ≡ self.old) }
         ensures content { D.honest disk.old → OnOk result (IsDraftWhole header.now self.old network.now (D.content disk.old) (D.content disk.new)) }
         // A stop during the call leaves the slot with a closed gate, or whole, and the rest of the content as it was.
-        ensures writes { Writes D.Disk (IsDraftShutOrWhole header.now self.old network.now (D.content disk.old)) result disk.old disk.new }
+        ensures writes { WritesDisk D.Disk (IsDraftShutOrWhole header.now self.old network.now (D.content disk.old)) result disk.old disk.new }
     {
         let written = self.written;
         let Ok(()) = self.write_all(disk, header, network, max_pages) else {

@@ -9,7 +9,7 @@ use Rattle.roadnet.specs.Net.{Net, IsNode}
 use Rattle.roadnet.specs.Walks.{Least, NoWalk, RowOf, distance_at}
 use Rattle.snapshot.specs.Groups.{Groups, IsGrouped, IsSnapshotOf}
 use Rattle.buckets.specs.Queue.{Entries}
-use Rattle.deltastep.specs.Reach.{AreFinal, IsBeyond, IsDistance, IsKnownTo, IsWithin}
+use Rattle.deltastep.specs.Reach.{AreFinal, IsBeyond, IsLeastLength, IsKnownTo, IsWithinEnd}
 use Rattle.deltastep.specs.Search.{AreLater, IsBetweenBuckets, IsFinal, IsRelaxedBut, Trip, top_of, trip_length}
 use Rattle.snapshot.specs.declared.legs.Leg.{Leg}
 use Rattle.snapshot.specs.declared.legs.Part.{Part}
@@ -71,12 +71,12 @@ module _ (net : Net) (groups : Groups) (snapshot : IsSnapshotOf net groups) (gro
   node_of_value u d has = (between.search.node u d has, omega (arith, value_below t u d has, between.search.places, snapshot.nodes))
 
   -- a node whose value is at most the end, if it has one
-  final_within : (end : Option ℕ) (u d : ℕ) → IsBeyond end queue → value_at t u ≡ Some d → IsWithin end d → IsFinal groups t queue u
+  final_within : (end : Option ℕ) (u d : ℕ) → IsBeyond end queue → value_at t u ≡ Some d → IsWithinEnd end d → IsFinal groups t queue u
   final_within None u d beyond has within v x queued = IsFinal-over groups t queue u beyond v x queued
   final_within (Some e) u d beyond has within v x queued = let near : d ≤ e = within in omega (arith, beyond v x queued, near, value_or-some (top_of groups) t u d has)
 
   -- a distance within the end is the value
-  value_within : (end : Option ℕ) (u d : ℕ) → IsBeyond end queue → Least net source u d → IsWithin end d → value_at t u ≡ Some d
+  value_within : (end : Option ℕ) (u d : ℕ) → IsBeyond end queue → Least net source u d → IsWithinEnd end d → value_at t u ≡ Some d
   value_within None u d beyond least within = entry_is net source u d (value_at t u) (entry_of_final net groups snapshot grouped source t queue u low high between (IsFinal-over groups t queue u beyond)) least
   value_within (Some e) u d beyond least within =
       elim (cases_lt e (value_or (top_of groups) t u)) as (λ _. value_at t u ≡ Some d) [
@@ -111,10 +111,10 @@ module _ (net : Net) (groups : Groups) (snapshot : IsSnapshotOf net groups) (gro
   }
 
 -- what is known of the target is its distance
-pub IsDistance-known : (net : Net) (source target : ℕ) (t : List (Option ℕ)) → IsKnownTo net source target t → IsDistance net source target (value_at t target)
+pub IsDistance-known : (net : Net) (source target : ℕ) (t : List (Option ℕ)) → IsKnownTo net source target t → IsLeastLength net source target (value_at t target)
 IsDistance-known net source target t known = of (value_at t target) refl known
   where
-    of : (o : Option ℕ) → value_at t target ≡ o → MatchOption o (NoWalk net source target) (λ far. AreFinal net source (Some far) t) → IsDistance net source target o
+    of : (o : Option ℕ) → value_at t target ≡ o → MatchOption o (NoWalk net source target) (λ far. AreFinal net source (Some far) t) → IsLeastLength net source target o
     of None e none = none
     of (Some far) e final = (final.right target far e (le_refl far)).1
 

@@ -13,7 +13,7 @@ use Rattle.snapshot.specs.declared.legs.Leg.{Leg}
 use Rattle.snapshot.specs.declared.legs.Part.{Part}
 use Rattle.snapshot.specs.declared.legs.Part.TheVariants.{Light, Heavy}
 use Rattle.deltastep.specs.Search.{top_of, Trip, trip_length, Reaches, AreReached, IsRelaxed, IsRelaxedBut, IsBetweenBuckets, IsFinal, weight}
-use Rattle.deltastep.specs.Guided.{ConsistentIsLowerBound, IsConsistent, IsLowerBound, IsKey, IsGuided, IsDone, IsLoweredTo, GoesOn, IsBest}
+use Rattle.deltastep.specs.Guided.{ConsistentIsLowerBound, IsConsistent, IsLowerBound, IsKey, IsGuided, IsDone, IsLoweredTo, SearchGoesOn, IsBest}
 use Rattle.deltastep.proofs.Division.{div-le_div}
 use Rattle.deltastep.proofs.Lowering.{value_or-some, value_or-set_same, value_or-set_other, value_or-set-le}
 use Rattle.frontier.proofs.Members.{Contains-nil, head_of, Contains-head_of}
@@ -30,7 +30,7 @@ consistent_is_lower_bound groups potential target consistent zero_there u (leg �
 
 -- ---- steps one after the other
 
-pub GoesOn-none : (groups : Groups) (target start : ℕ) (t : List (Option ℕ)) (queue : Entries) → GoesOn groups target start t queue t queue
+pub GoesOn-none : (groups : Groups) (target start : ℕ) (t : List (Option ℕ)) (queue : Entries) → SearchGoesOn groups target start t queue t queue
 GoesOn-none groups target start t queue = record {
   state = λ source h. h;
   moves = λ u. inl (refl, refl);
@@ -39,8 +39,8 @@ GoesOn-none groups target start t queue = record {
   weighs = le_refl (weight (top_of groups) t queue);
 }
 
-module _ (groups : Groups) (target start : ℕ) (a : List (Option ℕ)) (p : Entries) (b : List (Option ℕ)) (q : Entries) (first : GoesOn groups target start a p b q) where
-  pub GoesOn-then : (c : List (Option ℕ)) (r : Entries) → GoesOn groups target start b q c r → GoesOn groups target start a p c r
+module _ (groups : Groups) (target start : ℕ) (a : List (Option ℕ)) (p : Entries) (b : List (Option ℕ)) (q : Entries) (first : SearchGoesOn groups target start a p b q) where
+  pub GoesOn-then : (c : List (Option ℕ)) (r : Entries) → SearchGoesOn groups target start b q c r → SearchGoesOn groups target start a p c r
   GoesOn-then c r next = record {
     state = λ source h. next.state source (first.state source h);
     moves = λ u. elim (next.moves u) as (λ _. ((value_at c u ≡ value_at a u) × (get r u ≡ get p u)) ⊎ IsSome (get r u)) [
@@ -71,7 +71,7 @@ module _ (groups : Groups) (target start : ℕ) (a : List (Option ℕ)) (p : Ent
 
 -- the legs of a node that are met: the node is queued, or has its value still, and no leg of these leads to less than is known
 pub record HasMet (groups : Groups) (target start u x : ℕ) (legs : List Leg) (old : List (Option ℕ)) (queue : Entries) (new : List (Option ℕ)) (queue' : Entries) : Type 0 where
-  pub goes_on : GoesOn groups target start old queue new queue'
+  pub goes_on : SearchGoesOn groups target start old queue new queue'
   pub met : IsSome (get queue' u) ⊎ ((value_or (top_of groups) new u ≡ x) × ((leg : Leg) → Contains legs leg → value_or (top_of groups) new leg.head ≤ x + leg.length))
 
 -- a put that lowers its node takes from the weight, whatever the key
@@ -154,7 +154,7 @@ module _ (groups : Groups) (grouped : IsGrouped groups) (target start : ℕ) (ol
       small = λ v k' now. elim (queued_cases v k' now) as (λ _. k' < 2 ^ 64) [ inl here ↦ omega (arith, here.1, small) | inr other ↦ was.small v k' other.1 ];
     }
 
-    pub GoesOn-lowered : GoesOn groups target start old queue t q → GoesOn groups target start old queue (set t leg.head (Some through)) (insert q leg.head k)
+    pub GoesOn-lowered : SearchGoesOn groups target start old queue t q → SearchGoesOn groups target start old queue (set t leg.head (Some through)) (insert q leg.head k)
     unfolding after
     GoesOn-lowered so_far = record {
       state = λ source h. state source (h.reached.reached u x has) (so_far.state source h);

@@ -13,35 +13,35 @@ use Rattle.snapshot.specs.declared.legs.Part.{Part}
 use Rattle.snapshot.specs.declared.legs.Part.TheVariants.{Light, Heavy}
 use Rattle.buckets.specs.Queue.{Entries}
 use Rattle.deltastep.specs.Search.{IsRelaxed, IsSearch, top_of}
-use Rattle.deltastep.specs.Repair.{AreChanged, AreQueued, AreTails, AreTailsLooked, IsKeptOf, IsLooked}
+use Rattle.deltastep.specs.Repair.{AreChanged, AreQueued, AreTails, AreTailsLooked, IsKeptOf, IsNodeLooked}
 use Rattle.deltastep.proofs.Lowering.{value_or-some}
 use Rattle.deltastep.proofs.Remaining.{IsRowIn, All-member}
 
 pub AreQueued-empty : (t : List (Option ℕ)) (q : Entries) → q ≡ empty → AreQueued t q
 AreQueued-empty t q is u x has = absurd (let no : None ≡ Some x = sym (ap (λ (m : Entries). get m u) is ∙ get-empty nat_cmp u) ∙ has in let absurdity : ⊥ = cc in absurdity)
 
-pub IsLooked-on : (groups : Groups) (t : List (Option ℕ)) (q q' : Entries) → ((u : ℕ) → IsSome (get q u) → IsSome (get q' u)) → (u : ℕ) → IsLooked groups t q u → IsLooked groups t q' u
+pub IsLooked-on : (groups : Groups) (t : List (Option ℕ)) (q q' : Entries) → ((u : ℕ) → IsSome (get q u) → IsSome (get q' u)) → (u : ℕ) → IsNodeLooked groups t q u → IsNodeLooked groups t q' u
 IsLooked-on groups t q q' keeps u (inl some) = inl (keeps u some)
 IsLooked-on groups t q q' keeps u (inr relaxed) = inr relaxed
 
-pub All-looked_on : (groups : Groups) (t : List (Option ℕ)) (q q' : Entries) (legs : List Leg) → ((u : ℕ) → IsSome (get q u) → IsSome (get q' u)) → All (λ (leg : Leg). IsLooked groups t q leg.head) legs → All (λ (leg : Leg). IsLooked groups t q' leg.head) legs
+pub All-looked_on : (groups : Groups) (t : List (Option ℕ)) (q q' : Entries) (legs : List Leg) → ((u : ℕ) → IsSome (get q u) → IsSome (get q' u)) → All (λ (leg : Leg). IsNodeLooked groups t q leg.head) legs → All (λ (leg : Leg). IsNodeLooked groups t q' leg.head) legs
 All-looked_on groups t q q' legs keeps all k d lt = IsLooked-on groups t q q' keeps (get_or legs k d).head (all k d lt)
 
-pub All-changed_on : (groups : Groups) (t : List (Option ℕ)) (q q' : Entries) (nodes : List ℕ) → ((u : ℕ) → IsSome (get q u) → IsSome (get q' u)) → All (λ u. 1 ≤ u → u ≤ groups.nodes → IsLooked groups t q u) nodes → All (λ u. 1 ≤ u → u ≤ groups.nodes → IsLooked groups t q' u) nodes
+pub All-changed_on : (groups : Groups) (t : List (Option ℕ)) (q q' : Entries) (nodes : List ℕ) → ((u : ℕ) → IsSome (get q u) → IsSome (get q' u)) → All (λ u. 1 ≤ u → u ≤ groups.nodes → IsNodeLooked groups t q u) nodes → All (λ u. 1 ≤ u → u ≤ groups.nodes → IsNodeLooked groups t q' u) nodes
 All-changed_on groups t q q' nodes keeps all k d lt low high = IsLooked-on groups t q q' keeps (get_or nodes k d) (all k d lt low high)
 
 pub AreTailsLooked-on : (groups back : Groups) (row t : List (Option ℕ)) (q q' : Entries) (w : ℕ) → ((u : ℕ) → IsSome (get q u) → IsSome (get q' u)) → AreTailsLooked groups back row t q w → AreTailsLooked groups back row t q' w
 AreTailsLooked-on groups back row t q q' w keeps looked none y has part = All-looked_on groups t q q' (legs_of back part w) keeps (looked none y has part)
 
-pub AreTailsLooked-parts : (groups back : Groups) (row t : List (Option ℕ)) (q : Entries) (w : ℕ) → All (λ (leg : Leg). IsLooked groups t q leg.head) (legs_of back Light w) → All (λ (leg : Leg). IsLooked groups t q leg.head) (legs_of back Heavy w) → AreTailsLooked groups back row t q w
-AreTailsLooked-parts groups back row t q w light heavy none y has part = elim part as (λ p. All (λ (leg : Leg). IsLooked groups t q leg.head) (legs_of back p w)) [ Light ↦ light | Heavy ↦ heavy ]
+pub AreTailsLooked-parts : (groups back : Groups) (row t : List (Option ℕ)) (q : Entries) (w : ℕ) → All (λ (leg : Leg). IsNodeLooked groups t q leg.head) (legs_of back Light w) → All (λ (leg : Leg). IsNodeLooked groups t q leg.head) (legs_of back Heavy w) → AreTailsLooked groups back row t q w
+AreTailsLooked-parts groups back row t q w light heavy none y has part = elim part as (λ p. All (λ (leg : Leg). IsNodeLooked groups t q leg.head) (legs_of back p w)) [ Light ↦ light | Heavy ↦ heavy ]
 
 pub heads_to : (groups : Groups) (n : ℕ) (part : Part) (u : ℕ) (legs : List Leg) → IsGrouped groups → groups.nodes ≡ n → legs ≡ legs_of groups part u → All (λ (leg : Leg). (1 ≤ leg.head) × (leg.head ≤ n)) legs
 heads_to groups n part u legs grouped nodes is k d lt =
     let c : Contains (legs_of groups part u) (get_or legs k d) = subst (λ (l : List Leg). Contains l (get_or legs k d)) is (Contains-get_or legs k d lt) in
     (grouped.low part u (get_or legs k d) c, omega (arith, grouped.high part u (get_or legs k d) c))
 
-module _ (before after back : Groups) (source : ℕ) (row t : List (Option ℕ)) (q : Entries) (changed : List ℕ) (grouped : IsGrouped after) (of_row : IsRowIn before source row) (kept : IsKeptOf source row t) (search : IsSearch after t empty 0) (are : AreChanged before after changed) (tails : AreTails back after) (looked : All (λ u. 1 ≤ u → u ≤ after.nodes → IsLooked after t q u) changed) (tails_looked : (w : ℕ) → 1 ≤ w → w ≤ after.nodes → AreTailsLooked after back row t q w) where
+module _ (before after back : Groups) (source : ℕ) (row t : List (Option ℕ)) (q : Entries) (changed : List ℕ) (grouped : IsGrouped after) (of_row : IsRowIn before source row) (kept : IsKeptOf source row t) (search : IsSearch after t empty 0) (are : AreChanged before after changed) (tails : AreTails back after) (looked : All (λ u. 1 ≤ u → u ≤ after.nodes → IsNodeLooked after t q u) changed) (tails_looked : (w : ℕ) → 1 ≤ w → w ≤ after.nodes → AreTailsLooked after back row t q w) where
   has_kept : (u x : ℕ) → value_at t u ≡ Some x → distance_at row u ≡ Some x
   has_kept u x has = elim (kept.kept u) as (λ _. distance_at row u ≡ Some x) [
     | inl none ↦ absurd (let no : None ≡ Some x = sym none ∙ has in let absurdity : ⊥ = cc in absurdity)
@@ -58,7 +58,7 @@ module _ (before after back : Groups) (source : ℕ) (row t : List (Option ℕ))
       ] refl in
       omega (arith, top, at_most)
 
-  of_looked : (u : ℕ) → get q u ≡ None → IsLooked after t q u → (part : Part) → IsRelaxed after part t u
+  of_looked : (u : ℕ) → get q u ≡ None → IsNodeLooked after t q u → (part : Part) → IsRelaxed after part t u
   of_looked u none (inl some) part = absurd (let no : is_some {T = ℕ} None ≡ true = ap is_some (sym none) ∙ some in let absurdity : ⊥ = cc in absurdity)
   of_looked u none (inr relaxed) part = relaxed part
 
@@ -66,7 +66,7 @@ module _ (before after back : Groups) (source : ℕ) (row t : List (Option ℕ))
   at_leg u x low high has none part leg c =
       let Goal = value_or (top_of after) t leg.head ≤ value_or (top_of after) t u + leg.length in
       elim (are u) as (λ _. Goal) [
-        | inl c' ↦ of_looked u none (All-member (λ v. 1 ≤ v → v ≤ after.nodes → IsLooked after t q v) changed u looked c' low high) part leg c
+        | inl c' ↦ of_looked u none (All-member (λ v. 1 ≤ v → v ≤ after.nodes → IsNodeLooked after t q v) changed u looked c' low high) part leg c
         | inr same ↦
             let step = of_row.onward u x part leg (subst (λ (l : List Leg). Contains l leg) (sym (same part)) c) (has_kept u x has) in
             let here : value_or (top_of after) t u ≡ x = value_or-some (top_of after) t u x has in
@@ -78,15 +78,15 @@ module _ (before after back : Groups) (source : ℕ) (row t : List (Option ℕ))
               | None ↦ λ e.
                   let way = tails part u leg c in
                   let all = tails_looked leg.head (grouped.low part u leg c) (grouped.high part u leg c) e step.0 step.1 way.0 in
-                  let at : IsLooked after t q way.1.head = All-member (λ (l : Leg). IsLooked after t q l.head) (legs_of back way.0 leg.head) way.1 all way.2 in
-                  of_looked u none (subst (λ v. IsLooked after t q v) way.3 at) part leg c
+                  let at : IsNodeLooked after t q way.1.head = All-member (λ (l : Leg). IsNodeLooked after t q l.head) (legs_of back way.0 leg.head) way.1 all way.2 in
+                  of_looked u none (subst (λ v. IsNodeLooked after t q v) way.3 at) part leg c
             ] refl
       ]
 
-  pub each_looked : (u : ℕ) → 1 ≤ u → u ≤ after.nodes → IsLooked after t q u
-  each_looked u low high = elim (value_at t u) as (λ o. value_at t u ≡ o → IsLooked after t q u) [
+  pub each_looked : (u : ℕ) → 1 ≤ u → u ≤ after.nodes → IsNodeLooked after t q u
+  each_looked u low high = elim (value_at t u) as (λ o. value_at t u ≡ o → IsNodeLooked after t q u) [
     | None ↦ λ e. inr (unknown u e)
-    | Some x ↦ λ e. elim (get q u) as (λ o. get q u ≡ o → IsLooked after t q u) [
+    | Some x ↦ λ e. elim (get q u) as (λ o. get q u ≡ o → IsNodeLooked after t q u) [
       | Some y ↦ λ e'. inl (ap is_some e')
       | None ↦ λ e'. inr (at_leg u x low high e e')
     ] refl

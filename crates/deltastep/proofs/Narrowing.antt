@@ -12,7 +12,7 @@ use Rattle.snapshot.specs.declared.legs.Part.TheVariants.{Light, Heavy}
 use Rattle.relax.specs.Values.{value_at, value_or}
 use Rattle.buckets.specs.Queue.{Entries}
 use Rattle.deltastep.specs.Search.{IsBetweenBuckets, IsNarrowedOf, IsRelaxed, IsRelaxedBut, Suits, Trip, ring_buckets, top_of}
-use Rattle.deltastep.specs.Reach.{AreFinal, IsBeyond, IsDistance, IsKnownTo, Knows}
+use Rattle.deltastep.specs.Reach.{AreFinal, IsBeyond, IsLeastLength, IsKnownTo, Knows}
 use Rattle.deltastep.proofs.Ending.{AreFinal-beyond}
 use Rattle.deltastep.proofs.Finishing.{IsFinal-over, RowOf-over, entry_of_final}
 
@@ -98,7 +98,7 @@ known_narrowed net groups of source target from to t queue between beyond =
     node = (to.0, omega (arith, to.1, of.narrowed.nodes, of.snapshot.nodes))
 
     by : (o : Option ℕ) → value_at t target ≡ o → AreFinal net source o t → MatchOption o (NoWalk net source target) (λ far. AreFinal net source (Some far) t)
-    by None e final = subst (λ (o : Option ℕ). IsDistance net source target o) e ((knows_narrowed net groups of source from.0 from.1 t queue between (value_at t target) beyond).over e target node)
+    by None e final = subst (λ (o : Option ℕ). IsLeastLength net source target o) e ((knows_narrowed net groups of source from.0 from.1 t queue between (value_at t target) beyond).over e target node)
     by (Some far) e final = final
 
 -- ---- a frontier in which all buckets fit

@@ -8,7 +8,7 @@ use Rattle.roadnet.specs.declared.arcs.RoadArc.{RoadArc}
 use Rattle.roadnet.specs.Net.{Net, IsNode, IsNetwork, IsArcAmong, arc_at}
 use Rattle.roadnet.specs.Walks.{Walk, RowOf, distance_at, length_of, length_of_arc}
 use Rattle.deltastep.specs.Words.{no_walk, distance_of_word}
-use Rattle.deltastep.specs.Tentative.{word_at, IsBounded, IsWalked, IsSettled}
+use Rattle.deltastep.specs.Tentative.{word_at, IsBounded, IsWalked, IsArcSettled}
 use Rattle.deltastep.proofs.Reached.{near_bound}
 use Rattle.deltastep.proofs.Arcs.{index_of_arc, length_of_one}
 use Rattle.roadnet.proofs.Apart.{arc_among}
@@ -20,13 +20,13 @@ length_of-cons net walk k arc at =
     omega (arith, sum_by-append (length_of_arc net) (k ∷ []) walk)
 
 -- ---- no arc leads nearer: each walk is at least as long as the words say
-module _ (net : Net) (words : List ℕ) (ok : IsNetwork net) (bounded : IsBounded net.nodes words) (settled : All (IsSettled words) net.arcs) where
+module _ (net : Net) (words : List ℕ) (ok : IsNetwork net) (bounded : IsBounded net.nodes words) (settled : All (IsArcSettled words) net.arcs) where
   along : (walk : List ℕ) (u t : ℕ) → Walk net u t walk → word_at words u ≢ no_walk → (word_at words t ≢ no_walk) × (word_at words t ≤ word_at words u + length_of net walk)
   along [] u t w ne = rw (← w.1) (ne, omega arith)
   along (k ∷ walk) u t w ne =
       let among : IsArcAmong net.nodes w.0 = arc_among net k w.0 ok w.1 in
       let found : (i : ℕ) × (i < length net.arcs) × (get_or net.arcs i w.0 ≡ w.0) = index_of_arc net k w.0 w.1 in
-      let here : IsSettled words w.0 = subst (λ (a : RoadArc). IsSettled words a) found.2 (settled found.0 w.0 found.1) in
+      let here : IsArcSettled words w.0 = subst (λ (a : RoadArc). IsArcSettled words a) found.2 (settled found.0 w.0 found.1) in
       let ne_tail : word_at words w.0.tail ≢ no_walk = rw w.3 ne in
       let by_arc : word_at words w.0.head ≤ word_at words w.0.tail + w.0.length = here w.2 ne_tail in
       let same : word_at words w.0.tail ≡ word_at words u = ap (word_at words) w.3 in

@@ -9,7 +9,7 @@ use Rattle.roadnet.specs.declared.arcs.RoadArc.{RoadArc}
 use Rattle.roadnet.specs.Net.{Net, IsNode, IsNetwork, IsArcAmong, arc_at}
 use Rattle.roadnet.specs.Walks.{RowOf}
 use Rattle.deltastep.specs.Words.{no_walk, distance_of_word}
-use Rattle.deltastep.specs.Tentative.{word_at, reached_count, IsBounded, IsWalked, IsSettled, IsLowered}
+use Rattle.deltastep.specs.Tentative.{word_at, reached_count, IsBounded, IsWalked, IsArcSettled, IsLowered}
 use Rattle.deltastep.proofs.Reached.{count_of, count_none, count_one, count-set, IsBounded-set, sum-set_lower}
 use Rattle.roadnet.proofs.Apart.{arc_among}
 use Rattle.deltastep.proofs.SomeWalk.{IsWalked-set}
@@ -19,13 +19,13 @@ use Rattle.deltastep.proofs.NoShorter.{RowOf-settled}
 pub record IsPartlyRelaxed (net : Net) (old new : List ℕ) (nearer : Bool) (i : ℕ) : Type 0 where
   pub bounded : IsBounded net.nodes new
   pub walked : (s : ℕ) → IsWalked net s old → IsWalked net s new
-  pub cases : MatchBool nearer (sum new < sum old) ((new ≡ old) × All (IsSettled old) (take i net.arcs))
+  pub cases : MatchBool nearer (sum new < sum old) ((new ≡ old) × All (IsArcSettled old) (take i net.arcs))
 
 module _ (net : Net) (ok : IsNetwork net) (old mid new : List ℕ) (i : ℕ) (arc : RoadArc) (lt : i < length net.arcs) (is : arc ≡ get_or net.arcs i arc) where
   number_of_arc : arc_at net (suc i) ≡ Some arc
   number_of_arc = slice_get-get_or net.arcs i arc lt ∙ ap (λ (a : RoadArc). Some a) (sym is)
 
-  sum_not_above : (nearer : Bool) → MatchBool nearer (sum mid < sum old) ((mid ≡ old) × All (IsSettled old) (take i net.arcs)) → sum mid ≤ sum old
+  sum_not_above : (nearer : Bool) → MatchBool nearer (sum mid < sum old) ((mid ≡ old) × All (IsArcSettled old) (take i net.arcs)) → sum mid ≤ sum old
   sum_not_above true cases = omega arith
   sum_not_above false cases = rw cases.0 (omega arith)
 
@@ -42,13 +42,13 @@ module _ (net : Net) (ok : IsNetwork net) (old mid new : List ℕ) (i : ℕ) (ar
         cases = rw lowered.after (omega (arith, sum-set_lower mid (arc.head - 1) (word_at mid arc.tail + arc.length) head_in lowered.nearer, sum_not_above nearer part.cases));
       }
 
-  kept_cases : (nearer : Bool) → IsSettled mid arc → new ≡ mid → MatchBool nearer (sum mid < sum old) ((mid ≡ old) × All (IsSettled old) (take i net.arcs)) → MatchBool nearer (sum new < sum old) ((new ≡ old) × All (IsSettled old) (take (i + 1) net.arcs))
+  kept_cases : (nearer : Bool) → IsArcSettled mid arc → new ≡ mid → MatchBool nearer (sum mid < sum old) ((mid ≡ old) × All (IsArcSettled old) (take i net.arcs)) → MatchBool nearer (sum new < sum old) ((new ≡ old) × All (IsArcSettled old) (take (i + 1) net.arcs))
   kept_cases true settled same cases = rw same cases
   kept_cases false settled same cases =
-      let here : IsSettled old (get_or net.arcs i arc) = subst (λ (a : RoadArc). IsSettled old a) is (subst (λ (w : List ℕ). IsSettled w arc) cases.0 settled) in
-      (same ∙ cases.0, All-more (IsSettled old) net.arcs i arc lt cases.1 here)
+      let here : IsArcSettled old (get_or net.arcs i arc) = subst (λ (a : RoadArc). IsArcSettled old a) is (subst (λ (w : List ℕ). IsArcSettled w arc) cases.0 settled) in
+      (same ∙ cases.0, All-more (IsArcSettled old) net.arcs i arc lt cases.1 here)
 
-  pub relaxed_settled : (nearer : Bool) → IsPartlyRelaxed net old mid nearer i → (new ≡ mid) × IsSettled mid arc → IsPartlyRelaxed net old new nearer (i + 1)
+  pub relaxed_settled : (nearer : Bool) → IsPartlyRelaxed net old mid nearer i → (new ≡ mid) × IsArcSettled mid arc → IsPartlyRelaxed net old new nearer (i + 1)
   relaxed_settled nearer part kept = record {
     bounded = rw kept.0 part.bounded;
     walked = λ s w. rw kept.0 (part.walked s w);
@@ -103,9 +103,9 @@ module _ (net : Net) (s : ℕ) (node : IsNode net s) where
         (λ (other : t - 1 ≡ s - 1 → ⊥). absurd (ne (start_other (t - 1) (omega (arith, there.0, there.1)) other))) (cases_eq (t - 1) (s - 1));
   })
 
-pub cases_at_end : (net : Net) (old new : List ℕ) (nearer : Bool) (i : ℕ) → length net.arcs ≤ i → MatchBool nearer (sum new < sum old) ((new ≡ old) × All (IsSettled old) (take i net.arcs)) → MatchBool nearer (sum new < sum old) ((new ≡ old) × All (IsSettled old) net.arcs)
+pub cases_at_end : (net : Net) (old new : List ℕ) (nearer : Bool) (i : ℕ) → length net.arcs ≤ i → MatchBool nearer (sum new < sum old) ((new ≡ old) × All (IsArcSettled old) (take i net.arcs)) → MatchBool nearer (sum new < sum old) ((new ≡ old) × All (IsArcSettled old) net.arcs)
 cases_at_end net old new true i all cases = cases
-cases_at_end net old new false i all cases = (cases.0, subst (λ (arcs : List RoadArc). All (IsSettled old) arcs) (take_all i net.arcs all) cases.1)
+cases_at_end net old new false i all cases = (cases.0, subst (λ (arcs : List RoadArc). All (IsArcSettled old) arcs) (take_all i net.arcs all) cases.1)
 
 -- ---- the same, as the loop over the arcs has it
 module _ (net : Net) (ok : IsNetwork net) (old mid new : List ℕ) (arcs : List RoadArc) (i : ℕ) (d : RoadArc) (e : arcs ≡ net.arcs) (lt : i < length arcs) where
@@ -118,13 +118,13 @@ module _ (net : Net) (ok : IsNetwork net) (old mid new : List ℕ) (arcs : List 
   pub nearer_more : (nearer : Bool) → IsPartlyRelaxed net old mid nearer i → IsLowered (get_or arcs i d) mid new → IsPartlyRelaxed net old new true (i + 1)
   nearer_more = relaxed_nearer net ok old mid new i (get_or arcs i d) index_in arc_read
 
-  pub settled_more : (nearer : Bool) → IsPartlyRelaxed net old mid nearer i → (new ≡ mid) × IsSettled mid (get_or arcs i d) → IsPartlyRelaxed net old new nearer (i + 1)
+  pub settled_more : (nearer : Bool) → IsPartlyRelaxed net old mid nearer i → (new ≡ mid) × IsArcSettled mid (get_or arcs i d) → IsPartlyRelaxed net old new nearer (i + 1)
   settled_more = relaxed_settled net ok old mid new i (get_or arcs i d) index_in arc_read
 
 -- a round in which no node came nearer leaves the row
-pub RowOf-round : (net : Net) (s : ℕ) (old new : List ℕ) → IsNetwork net → IsNode net s → IsBounded net.nodes new → IsWalked net s new → (new ≡ old) × All (IsSettled old) net.arcs → RowOf net s (map distance_of_word new)
+pub RowOf-round : (net : Net) (s : ℕ) (old new : List ℕ) → IsNetwork net → IsNode net s → IsBounded net.nodes new → IsWalked net s new → (new ≡ old) × All (IsArcSettled old) net.arcs → RowOf net s (map distance_of_word new)
 RowOf-round net s old new ok node bounded walked round =
-    RowOf-settled net new ok bounded (subst (λ (w : List ℕ). All (IsSettled w) net.arcs) (sym round.0) round.1) s node walked
+    RowOf-settled net new ok bounded (subst (λ (w : List ℕ). All (IsArcSettled w) net.arcs) (sym round.0) round.1) s node walked
 
 -- a slice written back into its Vec, whole
 pub written_back : (n : ℕ) (new old : List ℕ) → n ≡ length old → length new ≡ length old → take n (new ++ drop (length new) old) ≡ new

@@ -21,7 +21,7 @@ use Rattle.relax.specs.Noted.{AreNoted}
 use Rattle.relax.specs.Values.{value_at, value_or}
 use Rattle.roadnet.specs.Net.{Net, IsNode}
 use Rattle.roadnet.specs.Walks.{Least}
-use Rattle.deltastep.specs.Reach.{AreAllWithin, AreEnough, AreFinal, AreNearest, ArePlaces, ComeBefore, IsReach, IsWithin, has_within, is_within, nearer_first, told_as, told_of}
+use Rattle.deltastep.specs.Reach.{AreAllWithin, AreEnough, AreFinal, AreNearest, AreNodesOfRow, ComeBefore, IsReach, IsWithinEnd, has_within, is_within, nearer_first, told_node, node_told_of}
 use Rattle.deltastep.specs.declared.rows.known.NodeDistance.{NodeDistance}
 use Rattle.deltastep.proofs.Ending.{Least-once, value_below}
 use Rattle.deltastep.proofs.Finishing.{Contains-filter, Contains-of_filter}
@@ -30,39 +30,39 @@ use Rattle.frontier.proofs.Members.{Contains-map, Contains-nil, Contains-of_map}
 
 -- ---- nodes that have values
 
-within_of : (end o : Option ℕ) → is_within end o ≡ true → (d : ℕ) × (o ≡ Some d) × IsWithin end d
+within_of : (end o : Option ℕ) → is_within end o ≡ true → (d : ℕ) × (o ≡ Some d) × IsWithinEnd end d
 within_of None None h = absurd (let absurdity : ⊥ = cc in absurdity)
 within_of (Some e) None h = absurd (let absurdity : ⊥ = cc in absurdity)
 within_of None (Some d) h = (d, refl, tt)
 within_of (Some e) (Some d) h = (d, refl, leb-true d e h)
 
 -- the value of a node that has one within the end
-pub value_of_has : (t : List (Option ℕ)) (end : Option ℕ) (u : ℕ) → has_within t end u ≡ true → (d : ℕ) × (value_at t u ≡ Some d) × IsWithin end d
+pub value_of_has : (t : List (Option ℕ)) (end : Option ℕ) (u : ℕ) → has_within t end u ≡ true → (d : ℕ) × (value_at t u ≡ Some d) × IsWithinEnd end d
 value_of_has t end u h = within_of end (value_at t u) h
 
-pub has_of_value : (t : List (Option ℕ)) (end : Option ℕ) (u d : ℕ) → value_at t u ≡ Some d → IsWithin end d → has_within t end u ≡ true
+pub has_of_value : (t : List (Option ℕ)) (end : Option ℕ) (u d : ℕ) → value_at t u ≡ Some d → IsWithinEnd end d → has_within t end u ≡ true
 has_of_value t None u d has within = ap (λ o. is_within None o) has
 has_of_value t (Some e) u d has within = ap (λ o. is_within (Some e) o) has ∙ le-leb d e within
 
-pub within_further : (end : Option ℕ) (limit d : ℕ) → IfSome end (λ e. limit ≤ e) → d ≤ limit → IsWithin end d
+pub within_further : (end : Option ℕ) (limit d : ℕ) → IfSome end (λ e. limit ≤ e) → d ≤ limit → IsWithinEnd end d
 within_further None limit d enough h = tt
 within_further (Some e) limit d enough h = let far : limit ≤ e = enough in omega (arith, far, h)
 
 -- ---- nodes as they are told
 
-nodes_told : (t : List (Option ℕ)) (nodes : List ℕ) → map (λ (r : NodeDistance). r.node) (map (told_of t) nodes) ≡ nodes
+nodes_told : (t : List (Option ℕ)) (nodes : List ℕ) → map (λ (r : NodeDistance). r.node) (map (node_told_of t) nodes) ≡ nodes
 nodes_told t [] = refl
 nodes_told t (u ∷ us) = ap (λ xs. u ∷ xs) (nodes_told t us)
 
-told_from : (t : List (Option ℕ)) (nodes : List ℕ) (u d : ℕ) → Contains (map (told_of t) nodes) (told_as u d) → Contains nodes u × (value_or 0 t u ≡ d)
+told_from : (t : List (Option ℕ)) (nodes : List ℕ) (u d : ℕ) → Contains (map (node_told_of t) nodes) (told_node u d) → Contains nodes u × (value_or 0 t u ≡ d)
 told_from t nodes u d c =
-    let r = Contains-of_map (told_of t) nodes (told_as u d) c in
+    let r = Contains-of_map (node_told_of t) nodes (told_node u d) c in
     let node : r.0 ≡ u = ap (λ (r : NodeDistance). r.node) r.2 in
     let far : value_or 0 t r.0 ≡ d = ap (λ (r : NodeDistance). r.distance) r.2 in
     (subst (λ (x : ℕ). Contains nodes x) node r.1, subst (λ (x : ℕ). value_or 0 t x ≡ d) node far)
 
-told_to : (t : List (Option ℕ)) (nodes : List ℕ) (u d : ℕ) → Contains nodes u → value_at t u ≡ Some d → Contains (map (told_of t) nodes) (told_as u d)
-told_to t nodes u d c has = subst (λ (n : ℕ). Contains (map (told_of t) nodes) (told_as u n)) (value_or-some 0 t u d has) (Contains-map (told_of t) nodes u c)
+told_to : (t : List (Option ℕ)) (nodes : List ℕ) (u d : ℕ) → Contains nodes u → value_at t u ≡ Some d → Contains (map (node_told_of t) nodes) (told_node u d)
+told_to t nodes u d c has = subst (λ (n : ℕ). Contains (map (node_told_of t) nodes) (told_node u n)) (value_or-some 0 t u d has) (Contains-map (node_told_of t) nodes u c)
 
 -- ---- the nodes within a limit
 
@@ -92,17 +92,17 @@ AreAllWithin-noted t limit noted are = record {
       Contains-filter (has_within t (Some limit)) noted u has (are.each u v.0 v.1);
 }
 
-pub ArePlaces-noted : (t : List (Option ℕ)) (noted : List ℕ) → AreNoted t noted → ArePlaces t noted
+pub ArePlaces-noted : (t : List (Option ℕ)) (noted : List ℕ) → AreNoted t noted → AreNodesOfRow t noted
 ArePlaces-noted t noted are k d lt = are.within (get_or noted k d) (Contains-get_or noted k d lt)
 
-pub ArePlaces-within : (t : List (Option ℕ)) (limit : ℕ) (nodes : List ℕ) → AreAllWithin t limit nodes → ArePlaces t nodes
+pub ArePlaces-within : (t : List (Option ℕ)) (limit : ℕ) (nodes : List ℕ) → AreAllWithin t limit nodes → AreNodesOfRow t nodes
 ArePlaces-within t limit nodes all k d lt = let w = all.right (get_or nodes k d) (Contains-get_or nodes k d lt) in (w.0, w.1)
 
-pub ArePlaces-filter : (t : List (Option ℕ)) (p : ℕ → Bool) (nodes : List ℕ) → ArePlaces t nodes → ArePlaces t (filter p nodes)
+pub ArePlaces-filter : (t : List (Option ℕ)) (p : ℕ → Bool) (nodes : List ℕ) → AreNodesOfRow t nodes → AreNodesOfRow t (filter p nodes)
 ArePlaces-filter t p nodes all k d lt = All-contains (λ u. (1 ≤ u) × (u < length t)) nodes (get_or (filter p nodes) k d) all (Contains-of_filter p nodes (get_or (filter p nodes) k d) (Contains-get_or (filter p nodes) k d lt)).0
 
 -- what is told of all nodes with values up to the limit, where these are final
-pub IsReach-told : (net : Net) (source limit : ℕ) (end : Option ℕ) (t : List (Option ℕ)) (nodes : List ℕ) → AreFinal net source end t → IfSome end (λ e. limit ≤ e) → IsStrictlyIncreasing nodes → AreAllWithin t limit nodes → IsReach net source limit (map (told_of t) nodes)
+pub IsReach-told : (net : Net) (source limit : ℕ) (end : Option ℕ) (t : List (Option ℕ)) (nodes : List ℕ) → AreFinal net source end t → IfSome end (λ e. limit ≤ e) → IsStrictlyIncreasing nodes → AreAllWithin t limit nodes → IsReach net source limit (map (node_told_of t) nodes)
 IsReach-told net source limit end t nodes final enough up all = record {
   ascending = subst (λ (l : List ℕ). IsStrictlyIncreasing l) (sym (nodes_told t nodes)) up;
   right = λ u d c.
@@ -185,7 +185,7 @@ first_of_two a b up apart = by_order (nearer_first a b) refl
 
 -- a sort of nodes that differ leaves each before those after it
 pub strictly_sorted : (xs : List NodeDistance) → IsSorted nearer_first xs → IsDistinct (eq_by_cmp by_node) xs → IsStrictlySortedBy nearer_first xs
-strictly_sorted xs up apart = sorted_from_all_adjacent nearer_total xs (told_as 0 0) (λ k lt. first_of_two (get_or xs k (told_as 0 0)) (get_or xs (k + 1) (told_as 0 0)) (up k (told_as 0 0) (omega arith) lt) (apart_from_distinct (eq_by_cmp by_node) xs k (k + 1) (told_as 0 0) apart (omega arith) lt))
+strictly_sorted xs up apart = sorted_from_all_adjacent nearer_total xs (told_node 0 0) (λ k lt. first_of_two (get_or xs k (told_node 0 0)) (get_or xs (k + 1) (told_node 0 0)) (up k (told_node 0 0) (omega arith) lt) (apart_from_distinct (eq_by_cmp by_node) xs k (k + 1) (told_node 0 0) apart (omega arith) lt))
 
 below_nodes : (x : ℕ) (rs : List NodeDistance) → AllByRecursion (λ y. nat_cmp x y ≡ Less) (map (λ (r : NodeDistance). r.node) rs) → AllByRecursion (λ (r : NodeDistance). nat_cmp x r.node ≡ Less) rs
 below_nodes x [] h = tt
@@ -197,8 +197,8 @@ sorted_by_node [] s = tt
 sorted_by_node (r ∷ rs) s = (below_nodes r.node rs s.0, sorted_by_node rs s.1)
 
 -- what is told of ascending nodes differs
-told_apart : (t : List (Option ℕ)) (nodes : List ℕ) → IsStrictlyIncreasing nodes → IsDistinct (eq_by_cmp by_node) (map (told_of t) nodes)
-told_apart t nodes up = IsDistinct-from_sorted by_node (map (told_of t) nodes) (sorted_by_node (map (told_of t) nodes) (subst (λ (l : List ℕ). IsStrictlySortedBy nat_cmp l) (sym (nodes_told t nodes)) (sorted_from_strictly_increasing nodes up)))
+told_apart : (t : List (Option ℕ)) (nodes : List ℕ) → IsStrictlyIncreasing nodes → IsDistinct (eq_by_cmp by_node) (map (node_told_of t) nodes)
+told_apart t nodes up = IsDistinct-from_sorted by_node (map (node_told_of t) nodes) (sorted_by_node (map (node_told_of t) nodes) (subst (λ (l : List ℕ). IsStrictlySortedBy nat_cmp l) (sym (nodes_told t nodes)) (sorted_from_strictly_increasing nodes up)))
 
 module _ (c : NodeDistance → NodeDistance → Ordering) where
   take_all : (P : NodeDistance → Type 0) (n : ℕ) (xs : List NodeDistance) → AllByRecursion P xs → AllByRecursion P (take n xs)
@@ -253,9 +253,9 @@ less_far : (a b : NodeDistance) → a.distance < b.distance → nearer_first a b
 less_far a b less = ap (λ (o : Ordering). ordering_then o (nat_cmp a.node b.node)) (sym (nat_cmp_is a.distance b.distance Less less))
 
 -- within the end, or beyond it
-decide_within : (end : Option ℕ) (d : ℕ) → IsWithin end d ⊎ ((e : ℕ) × (end ≡ Some e) × (e < d))
+decide_within : (end : Option ℕ) (d : ℕ) → IsWithinEnd end d ⊎ ((e : ℕ) × (end ≡ Some e) × (e < d))
 decide_within None d = inl tt
-decide_within (Some e) d = elim (cases_lt e d) as (λ _. IsWithin (Some e) d ⊎ ((e' : ℕ) × (Some e ≡ Some e') × (e' < d))) [
+decide_within (Some e) d = elim (cases_lt e d) as (λ _. IsWithinEnd (Some e) d ⊎ ((e' : ℕ) × (Some e ≡ Some e') × (e' < d))) [
   | inl less ↦ inr (e, refl, less)
   | inr low ↦ inl low
 ]
@@ -264,62 +264,62 @@ far_enough : (t : List (Option ℕ)) (among : List ℕ) (count : ℕ) (end : Opt
 far_enough t among count None e is enough = absurd (let absurdity : ⊥ = cc in absurdity)
 far_enough t among count (Some e') e is enough = enough
 
-module _ (net : Net) (source : ℕ) (among : List ℕ) (count : ℕ) (end : Option ℕ) (t : List (Option ℕ)) (sorted : List NodeDistance) (final : AreFinal net source end t) (places : ArePlaces t among) (up : IsStrictlyIncreasing among) (enough : IfSome end (λ e. AreEnough t among count e)) (moved : IsPermutation (map (told_of t) (filter (has_within t end) among)) sorted) (order : IsSorted nearer_first sorted) where
+module _ (net : Net) (source : ℕ) (among : List ℕ) (count : ℕ) (end : Option ℕ) (t : List (Option ℕ)) (sorted : List NodeDistance) (final : AreFinal net source end t) (places : AreNodesOfRow t among) (up : IsStrictlyIncreasing among) (enough : IfSome end (λ e. AreEnough t among count e)) (moved : IsPermutation (map (node_told_of t) (filter (has_within t end) among)) sorted) (order : IsSorted nearer_first sorted) where
   node_of : (x : ℕ) → Contains among x → IsNode net x
   node_of x c = let w = All-contains (λ u. (1 ≤ u) × (u < length t)) among x places c in (w.0, omega (arith, w.1, final.places))
 
   rises : IsStrictlySortedBy nearer_first sorted
-  rises = strictly_sorted sorted order (IsDistinct-IsPermutation (eq_by_cmp by_node) ((eq_by_cmp_equiv by_node_total).symm) (map (told_of t) (filter (has_within t end) among)) sorted moved (told_apart t (filter (has_within t end) among) (IsStrictlyIncreasing-filter (has_within t end) among up)))
+  rises = strictly_sorted sorted order (IsDistinct-IsPermutation (eq_by_cmp by_node) ((eq_by_cmp_equiv by_node_total).symm) (map (node_told_of t) (filter (has_within t end) among)) sorted moved (told_apart t (filter (has_within t end) among) (IsStrictlyIncreasing-filter (has_within t end) among up)))
 
   -- what is in the list is one of these, with its distance, which is within the end
-  right_of : (x d : ℕ) → Contains sorted (told_as x d) → Contains among x × Least net source x d × IsWithin end d
+  right_of : (x d : ℕ) → Contains sorted (told_node x d) → Contains among x × Least net source x d × IsWithinEnd end d
   right_of x d c =
-      let told = told_from t (filter (has_within t end) among) x d (Contains-permutation sorted (map (told_of t) (filter (has_within t end) among)) (told_as x d) (IsPermutation-sym (map (told_of t) (filter (has_within t end) among)) sorted moved) c) in
+      let told = told_from t (filter (has_within t end) among) x d (Contains-permutation sorted (map (node_told_of t) (filter (has_within t end) among)) (told_node x d) (IsPermutation-sym (map (node_told_of t) (filter (has_within t end) among)) sorted moved) c) in
       let f = Contains-of_filter (has_within t end) among x told.0 in
       let v = value_of_has t end x f.1 in
       let same : v.0 ≡ d = sym (value_or-some 0 t x v.0 v.1) ∙ told.1 in
       let least = (final.right x v.0 v.1 v.2).1 in
-      (f.0, subst (λ (n : ℕ). Least net source x n) same least, subst (λ (n : ℕ). IsWithin end n) same v.2)
+      (f.0, subst (λ (n : ℕ). Least net source x n) same least, subst (λ (n : ℕ). IsWithinEnd end n) same v.2)
 
   -- each of these with a distance within the end is in the list
-  in_list : (x d : ℕ) → Contains among x → Least net source x d → IsWithin end d → Contains sorted (told_as x d)
+  in_list : (x d : ℕ) → Contains among x → Least net source x d → IsWithinEnd end d → Contains sorted (told_node x d)
   in_list x d c least within =
       let has = final.each x d (node_of x c) least within in
       let kept = Contains-filter (has_within t end) among x (has_of_value t end x d has within) c in
-      Contains-permutation (map (told_of t) (filter (has_within t end) among)) sorted (told_as x d) moved (told_to t (filter (has_within t end) among) x d kept has)
+      Contains-permutation (map (node_told_of t) (filter (has_within t end) among)) sorted (told_node x d) moved (told_to t (filter (has_within t end) among) x d kept has)
 
   long : length sorted ≡ count_by (has_within t end) among
-  long = length_permutation (map (told_of t) (filter (has_within t end) among)) sorted moved ∙ (length-map (filter (has_within t end) among) (told_of t) ∙ length-filter (has_within t end) among)
+  long = length_permutation (map (node_told_of t) (filter (has_within t end) among)) sorted moved ∙ (length-map (filter (has_within t end) among) (node_told_of t) ∙ length-filter (has_within t end) among)
 
   -- one in the list is told, or comes after those that are
-  told_or_after : (x d : ℕ) → Contains sorted (told_as x d) → Contains (take count sorted) (told_as x d) ⊎ ComeBefore count (take count sorted) (told_as x d)
-  told_or_after x d c = elim (taken_or_left count sorted (told_as x d) c) as (λ _. Contains (take count sorted) (told_as x d) ⊎ ComeBefore count (take count sorted) (told_as x d)) [
+  told_or_after : (x d : ℕ) → Contains sorted (told_node x d) → Contains (take count sorted) (told_node x d) ⊎ ComeBefore count (take count sorted) (told_node x d)
+  told_or_after x d c = elim (taken_or_left count sorted (told_node x d) c) as (λ _. Contains (take count sorted) (told_node x d) ⊎ ComeBefore count (take count sorted) (told_node x d)) [
     | inl taken ↦ inl taken
     | inr left ↦ inr (record {
       full = omega (arith, left.1, length-drop count sorted, length-take count sorted);
-      before = λ y n taken. before_rest nearer_first count sorted (told_as y n) (told_as x d) rises taken left;
+      before = λ y n taken. before_rest nearer_first count sorted (told_node y n) (told_node x d) rises taken left;
     })
   ]
 
   -- one beyond the end comes after all that are told, and these are as many as were asked for
-  far_after : (x d e : ℕ) → Contains among x → Least net source x d → end ≡ Some e → e < d → ComeBefore count (take count sorted) (told_as x d)
+  far_after : (x d e : ℕ) → Contains among x → Least net source x d → end ≡ Some e → e < d → ComeBefore count (take count sorted) (told_node x d)
   far_after x d e c least is beyond = by_number (cases_lt count (length among))
     where
       at_end : min (length among) count ≤ count_by (has_within t end) among
       at_end = far_enough t among count end e is enough
 
-      far_of : (y n : ℕ) → Contains sorted (told_as y n) → n < d
-      far_of y n c' = let near : n ≤ e = subst (λ (o : Option ℕ). IsWithin o n) is (right_of y n c').2 in omega (arith, near, beyond)
+      far_of : (y n : ℕ) → Contains sorted (told_node y n) → n < d
+      far_of y n c' = let near : n ≤ e = subst (λ (o : Option ℕ). IsWithinEnd o n) is (right_of y n c').2 in omega (arith, near, beyond)
 
-      by_number : (count < length among) ⊎ (length among ≤ count) → ComeBefore count (take count sorted) (told_as x d)
+      by_number : (count < length among) ⊎ (length among ≤ count) → ComeBefore count (take count sorted) (told_node x d)
       by_number (inl fewer) = record {
         full = omega (arith, fewer, at_end, long, length-take count sorted);
-        before = λ y n taken. less_far (told_as y n) (told_as x d) (far_of y n (taken_within count sorted (told_as y n) taken));
+        before = λ y n taken. less_far (told_node y n) (told_node x d) (far_of y n (taken_within count sorted (told_node y n) taken));
       }
       by_number (inr all) =
           let has = each_passes (has_within t end) among x (omega (arith, all, at_end)) c in
           let v = value_of_has t end x has in
-          let near : v.0 ≤ e = subst (λ (o : Option ℕ). IsWithin o v.0) is v.2 in
+          let near : v.0 ≤ e = subst (λ (o : Option ℕ). IsWithinEnd o v.0) is v.2 in
           let same : v.0 ≡ d = Least-once net source x v.0 d (final.right x v.0 v.1 v.2).1 least in
           absurd (omega (arith, near, same, beyond))
 
@@ -327,8 +327,8 @@ module _ (net : Net) (source : ℕ) (among : List ℕ) (count : ℕ) (end : Opti
   AreNearest-told = record {
     ascending = sorted_take nearer_first count sorted rises;
     few = omega (arith, length-take count sorted);
-    right = λ x d c. let r = right_of x d (taken_within count sorted (told_as x d) c) in (r.0, r.1);
-    nearest = λ x d c least. elim (decide_within end d) as (λ _. Contains (take count sorted) (told_as x d) ⊎ ComeBefore count (take count sorted) (told_as x d)) [
+    right = λ x d c. let r = right_of x d (taken_within count sorted (told_node x d) c) in (r.0, r.1);
+    nearest = λ x d c least. elim (decide_within end d) as (λ _. Contains (take count sorted) (told_node x d) ⊎ ComeBefore count (take count sorted) (told_node x d)) [
       | inl within ↦ told_or_after x d (in_list x d c least within)
       | inr far ↦ inr (far_after x d far.0 c least far.1 far.2)
     ];

@@ -46,7 +46,7 @@ pub record IsLoweredTo (old : List (Option ℕ)) (queue : Entries) (new : List (
   pub tentative : new ≡ slice_set old node (Some value)
   pub queued : queue' ≡ map.insert queue node key
 
-pub record GoesOn (groups : Groups) (target start : ℕ) (old : List (Option ℕ)) (queue : Entries) (new : List (Option ℕ)) (queue' : Entries) : Type 0 where
+pub record SearchGoesOn (groups : Groups) (target start : ℕ) (old : List (Option ℕ)) (queue : Entries) (new : List (Option ℕ)) (queue' : Entries) : Type 0 where
   pub state : (source : ℕ) → IsGuided groups source target old queue → IsGuided groups source target new queue'
   pub moves : (u : ℕ) → ((value_at new u ≡ value_at old u) × (map.get queue' u ≡ map.get queue u)) ⊎ IsSome (map.get queue' u)
   pub falls : (u : ℕ) → value_or (top_of groups) new u ≤ value_or (top_of groups) old u

@@ -79,8 +79,8 @@ pub record Thins (source : ℕ) (old : List (Option ℕ)) (lost : List ℕ) (new
   pub more : (u : ℕ) → value_at new u ≡ None → Contains lost' u ⊎ (value_at old u ≡ None)
 
 -- the node is queued, or no leg of it leads to less than is known
-abbrev pub IsLooked : Groups → List (Option ℕ) → Entries → ℕ → Type 0
-IsLooked groups tentative queue u = IsSome (map.get queue u) ⊎ ((part : Part) → IsRelaxed groups part tentative u)
+abbrev pub IsNodeLooked : Groups → List (Option ℕ) → Entries → ℕ → Type 0
+IsNodeLooked groups tentative queue u = IsSome (map.get queue u) ⊎ ((part : Part) → IsRelaxed groups part tentative u)
 
 -- for each leg there is one back, from its head to its tail
 abbrev pub AreTails : Groups → Groups → Type 0
@@ -89,4 +89,4 @@ AreTails back groups = (part : Part) (u : ℕ) (leg : Leg) → Contains (legs_of
 -- where the node lost its value, each node with a leg to it was looked at
 abbrev pub AreTailsLooked : Groups → Groups → List (Option ℕ) → List (Option ℕ) → Entries → ℕ → Type 0
 AreTailsLooked groups back row tentative queue w =
-    value_at tentative w ≡ None → (y : ℕ) → distance_at row w ≡ Some y → (part : Part) → All (λ leg. IsLooked groups tentative queue leg.head) (legs_of back part w)
+    value_at tentative w ≡ None → (y : ℕ) → distance_at row w ≡ Some y → (part : Part) → All (λ leg. IsNodeLooked groups tentative queue leg.head) (legs_of back part w)

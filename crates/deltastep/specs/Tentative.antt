@@ -24,8 +24,8 @@ pub record IsWalked (net : Net) (s : ℕ) (words : List ℕ) : Type 0 where
   pub walked : (t : ℕ) → IsNode net t → word_at words t ≢ no_walk → (walk : List ℕ) × Walk net s t walk × (length_of net walk ≡ word_at words t)
 
 -- by way of this arc its head is no nearer
-abbrev pub IsSettled : List ℕ → RoadArc → Type 0
-IsSettled words arc = arc.opened ≡ true → word_at words arc.tail ≢ no_walk → word_at words arc.head ≤ word_at words arc.tail + arc.length
+abbrev pub IsArcSettled : List ℕ → RoadArc → Type 0
+IsArcSettled words arc = arc.opened ≡ true → word_at words arc.tail ≢ no_walk → word_at words arc.head ≤ word_at words arc.tail + arc.length
 
 -- the head's word is lowered to the way by this arc
 pub record IsLowered (arc : RoadArc) (old new : List ℕ) : Type 0 where

@@ -1,7 +1,7 @@
 ghost use Rattle.std.specs.Prelude.{◌≡◌, ℕ, ◌<◌, ◌≤◌, ◌^◌, IfOk, MatchBool, All, length, sum};
 ghost use Rattle.roadnet.specs.Net.{IsNode, IsArcAmong};
 ghost use Rattle.roadnet.specs.Walks.{RowOf};
-ghost use Rattle.deltastep.specs.Tentative.{IsBounded, IsWalked, IsSettled, IsLowered};
+ghost use Rattle.deltastep.specs.Tentative.{IsBounded, IsWalked, IsArcSettled, IsLowered};
 
 use crate::rows::distances::{Distances, NO_WALK, RowError};
 use roadnet::{Network, RoadArc};
@@ -30,7 +30,7 @@ fn relax_all(network: &Network, words: &mut [u64]) -> bool
     requires { IsBounded network.now.nodes words.old }
     ensures bounded { IsBounded network.now.nodes words.new }
     ensures walked { (s : ℕ) → IsWalked network.now s words.old → IsWalked network.now s words.new }
-    ensures cases { MatchBool result (sum words.new < sum words.old) ((words.new ≡ words.old) × All (IsSettled words.old) network.now.arcs) }
+    ensures cases { MatchBool result (sum words.new < sum words.old) ((words.new ≡ words.old) × All (IsArcSettled words.old) network.now.arcs) }
 {
     let mut nearer = false;
     for &arc in network.arcs() {
@@ -46,7 +46,7 @@ fn relax(arc: RoadArc, words: &mut [u64]) -> bool
     requires arc { IsArcAmong (length words.old) arc }
     requires bounded { IsBounded (length words.old) words.old }
     requires few { length words.old ≤ 2 ^ 25 }
-    ensures { MatchBool result (IsLowered arc words.old words.new) ((words.new ≡ words.old) × IsSettled words.old arc) }
+    ensures { MatchBool result (IsLowered arc words.old words.new) ((words.new ≡ words.old) × IsArcSettled words.old arc) }
 {
     let tail = words[arc.tail as usize - 1];
     if !arc.opened || tail == NO_WALK {

@@ -8,7 +8,7 @@ use Rattle.std.proofs.lemmas.Bool.Decides.{nat_tests}
 use Rattle.roadnet.specs.Net.{Net}
 use Rattle.rows.specs.declared.landmark_rows.Row.{Row}
 use Rattle.rows.specs.Views.{IsRowAt}
-use Rattle.desk.specs.Shares.{share_of, AreRowsOf, AreDealt}
+use Rattle.desk.specs.Shares.{share_of, AreRowsOfLandmarks, AreSharesDealt}
 
 -- a worker passes over one landmark
 pub share_passed : (workers passed i : ℕ) (landmarks : List ℕ) → i < length landmarks → 0 < passed
@@ -25,45 +25,45 @@ share_taken workers passed i landmarks lt none = ap (λ (k : ℕ). share_of work
 
 -- the rows of the first worker begin with that of the first landmark
 pub first_dealt : (version : ℕ) (net : Net) (workers : ℕ) (x : ℕ) (xs : List ℕ) (part : List Row) (rest : List (List Row))
-    → 1 ≤ workers → AreDealt version net workers (x ∷ xs) (part ∷ rest) → AreRowsOf version net (x ∷ share_of workers (workers - 1) xs) part
+    → 1 ≤ workers → AreSharesDealt version net workers (x ∷ xs) (part ∷ rest) → AreRowsOfLandmarks version net (x ∷ share_of workers (workers - 1) xs) part
 first_dealt version net workers x xs part rest some dealt = dealt.each 0 some
 
 -- its landmark is the first one
 pub first_landmark : (version : ℕ) (net : Net) (workers : ℕ) (left : List ℕ) (row : Row) (others : List Row) (rest : List (List Row))
-    → 0 < length left → 1 ≤ workers → AreDealt version net workers left ((row ∷ others) ∷ rest) → row.landmark ≡ slice_index left 0
+    → 0 < length left → 1 ≤ workers → AreSharesDealt version net workers left ((row ∷ others) ∷ rest) → row.landmark ≡ slice_index left 0
 first_landmark version net workers [] row others rest none some dealt = elim none [ ]
 first_landmark version net workers (x ∷ xs) row others rest one some dealt =
     ap (λ (ls : List ℕ). get_or ls 0 0) (first_dealt version net workers x xs (row ∷ others) rest some dealt).landmarks_are
 
 pub first_right : (version : ℕ) (net : Net) (workers : ℕ) (left : List ℕ) (row : Row) (others : List Row) (rest : List (List Row))
-    → 0 < length left → 1 ≤ workers → AreDealt version net workers left ((row ∷ others) ∷ rest) → IsRowAt version net row
+    → 0 < length left → 1 ≤ workers → AreSharesDealt version net workers left ((row ∷ others) ∷ rest) → IsRowAt version net row
 first_right version net workers [] row others rest none some dealt = elim none [ ]
 first_right version net workers (x ∷ xs) row others rest one some dealt =
     All-head (IsRowAt version net) row others (first_dealt version net workers x xs (row ∷ others) rest some dealt).each
 
 -- what the workers have left behind it, the first one last
 rest_each : (version : ℕ) (net : Net) (workers x : ℕ) (xs : List ℕ) (row : Row) (others : List Row) (rest : List (List Row))
-    → 1 ≤ workers → AreDealt version net workers (x ∷ xs) ((row ∷ others) ∷ rest)
+    → 1 ≤ workers → AreSharesDealt version net workers (x ∷ xs) ((row ∷ others) ∷ rest)
     → (worker : ℕ) → worker < workers → (b : Bool) → nat_lt worker (length rest) ≡ b
-    → AreRowsOf version net (share_of workers worker xs) (slice_index_or (rest ++ others ∷ []) worker [])
+    → AreRowsOfLandmarks version net (share_of workers worker xs) (slice_index_or (rest ++ others ∷ []) worker [])
 rest_each version net workers x xs row others rest some dealt worker lt true is =
     let inside : worker < length rest = grind (arith, nat_tests) in
     let next : suc worker < workers = let long = dealt.length_is in omega arith in
-    subst (AreRowsOf version net (share_of workers worker xs)) (sym (get_or_append_left rest (others ∷ []) [] worker inside)) (dealt.each (suc worker) next)
+    subst (AreRowsOfLandmarks version net (share_of workers worker xs)) (sym (get_or_append_left rest (others ∷ []) [] worker inside)) (dealt.each (suc worker) next)
 rest_each version net workers x xs row others rest some dealt worker lt false is =
     let last : worker ≡ length rest = let long = dealt.length_is in grind (arith, nat_tests) in
     let share : worker ≡ workers - 1 = let long = dealt.length_is in omega arith in
     let first = first_dealt version net workers x xs (row ∷ others) rest some dealt in
-    let own : AreRowsOf version net (share_of workers (workers - 1) xs) others = record {
+    let own : AreRowsOfLandmarks version net (share_of workers (workers - 1) xs) others = record {
       landmarks_are = ap (λ (ls : List ℕ). drop 1 ls) first.landmarks_are;
       each = All-tail (IsRowAt version net) row others first.each;
     } in
-    subst (λ (k : ℕ). AreRowsOf version net (share_of workers k xs) (slice_index_or (rest ++ others ∷ []) worker [])) (sym share)
-    (subst (λ (k : ℕ). AreRowsOf version net (share_of workers (workers - 1) xs) (slice_index_or (rest ++ others ∷ []) k [])) (sym last)
-    (subst (AreRowsOf version net (share_of workers (workers - 1) xs)) (sym (get_or-append_seam rest others [] [])) own))
+    subst (λ (k : ℕ). AreRowsOfLandmarks version net (share_of workers k xs) (slice_index_or (rest ++ others ∷ []) worker [])) (sym share)
+    (subst (λ (k : ℕ). AreRowsOfLandmarks version net (share_of workers (workers - 1) xs) (slice_index_or (rest ++ others ∷ []) k [])) (sym last)
+    (subst (AreRowsOfLandmarks version net (share_of workers (workers - 1) xs)) (sym (get_or-append_seam rest others [] [])) own))
 
 pub rest_dealt : (version : ℕ) (net : Net) (workers : ℕ) (left : List ℕ) (row : Row) (others : List Row) (rest : List (List Row))
-    → 0 < length left → 1 ≤ workers → AreDealt version net workers left ((row ∷ others) ∷ rest) → AreDealt version net workers (drop 1 left) (rest ++ others ∷ [])
+    → 0 < length left → 1 ≤ workers → AreSharesDealt version net workers left ((row ∷ others) ∷ rest) → AreSharesDealt version net workers (drop 1 left) (rest ++ others ∷ [])
 rest_dealt version net workers [] row others rest none some dealt = elim none [ ]
 rest_dealt version net workers (x ∷ xs) row others rest one some dealt = record {
   length_is = let long = dealt.length_is in omega (arith, length-append rest (others ∷ []));
@@ -72,7 +72,7 @@ rest_dealt version net workers (x ∷ xs) row others rest one some dealt = recor
 
 -- the first worker has a row, where a landmark is left
 pub has_first : (version : ℕ) (net : Net) (workers : ℕ) (left : List ℕ) (all : List (List Row))
-    → 0 < length left → 1 ≤ workers → AreDealt version net workers left all → (row : Row) × (others : List Row) × (rest : List (List Row)) × (all ≡ (row ∷ others) ∷ rest)
+    → 0 < length left → 1 ≤ workers → AreSharesDealt version net workers left all → (row : Row) × (others : List Row) × (rest : List (List Row)) × (all ≡ (row ∷ others) ∷ rest)
 has_first version net workers [] all none some dealt = elim none [ ]
 has_first version net workers (x ∷ xs) [] one some dealt = absurd (let long = dealt.length_is in omega arith)
 has_first version net workers (x ∷ xs) ([] ∷ rest) one some dealt =
@@ -91,7 +91,7 @@ first_left i landmarks lt = ap (λ (ls : List ℕ). slice_index ls 0) (drop_more
 
 -- what each worker made is dealt
 pub dealt_by : (version : ℕ) (net : Net) (workers : ℕ) (parts : List (List Row)) → length parts ≡ workers
-    → ((worker : ℕ) → worker < workers → AreRowsOf version net (share_of workers worker net.landmarks) (slice_index_or parts worker [])) → AreDealt version net workers net.landmarks parts
+    → ((worker : ℕ) → worker < workers → AreRowsOfLandmarks version net (share_of workers worker net.landmarks) (slice_index_or parts worker [])) → AreSharesDealt version net workers net.landmarks parts
 dealt_by version net workers parts long each = record { length_is = long; each = each }
 
 -- where each part was made, what holds of each that was made holds of each part

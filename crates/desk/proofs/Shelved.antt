@@ -16,7 +16,7 @@ use Rattle.rows.specs.Views.{Viewed}
 use Rattle.history.specs.Origins.{Origin, Beginning}
 use Rattle.history.proofs.Beginnings.{prefix_whole}
 use Rattle.desk.specs.Readings.{IsViewAfter}
-use Rattle.desk.specs.Shelves.{AreRowsIn, IsShelfOf, IsOfShelf, IsBackOf, IsTurnedOf, IsAfter, IsAskedAt, IsRowAt, HasRow}
+use Rattle.desk.specs.Shelves.{AreRowsIn, IsShelfOf, IsOfShelf, IsBackOf, IsTurnedOf, IsAfter, IsAskedAt, IsKeptRowAt, HasRow}
 use Rattle.desk.specs.declared.handles.shelves.KeptRow.{KeptRow}
 
 -- a new shelf of a view has no row
@@ -43,7 +43,7 @@ one_net one other same = ap (λ (net : Option Net). unwrap_or net other) same
 
 -- a kept row is one of the view that was looked at
 pub row_found : (origin : Origin) (groups : Option Beginning) (rows : List KeptRow) (known : List Group) (view : Viewed) (source place : ℕ) (kept : KeptRow) → IsShelfOf origin groups rows → IsAfter groups known
-    → IsViewAfter origin known view → IsRowAt source rows place → kept ≡ slice_index_or rows place kept → RowOf view.network source kept.distances
+    → IsViewAfter origin known view → IsKeptRowAt source rows place → kept ≡ slice_index_or rows place kept → RowOf view.network source kept.distances
 row_found origin None rows known view source place kept shelf at view_after there is = absurd at
 row_found origin (Some front) rows known view source place kept shelf at view_after there is =
     let network : after origin.base front.groups ≡ Some view.network = ap (after origin.base) at ∙ view_after.network in
@@ -110,5 +110,5 @@ has_last rows kept = (length rows, (omega (arith, length-append rows (kept ∷ [
 pub asked_at : (asked : List (ℕ × ℕ)) (place version source : ℕ) (key : ℕ × ℕ) → place < length asked → key ≡ slice_index_or asked place key → key ≡ (version, source) → IsAskedAt version source asked place
 asked_at asked place version source key within is same = (within, λ any. sym (get_or_read asked place key within is any) ∙ same)
 
-pub row_at : (rows : List KeptRow) (place source : ℕ) (kept : KeptRow) → place < length rows → kept ≡ slice_index_or rows place kept → kept.source ≡ source → IsRowAt source rows place
+pub row_at : (rows : List KeptRow) (place source : ℕ) (kept : KeptRow) → place < length rows → kept ≡ slice_index_or rows place kept → kept.source ≡ source → IsKeptRowAt source rows place
 row_at rows place source kept within is same = (within, λ any. ap (λ (k : KeptRow). k.source) (sym (get_or_read rows place kept within is any)) ∙ same)

@@ -12,11 +12,11 @@ share_of workers zero (x ∷ xs) = x ∷ share_of workers (workers - 1) xs
 share_of workers (suc passed) (x ∷ xs) = share_of workers passed xs
 
 -- one row for each of these landmarks, in their order, made for this version of the network
-pub record AreRowsOf (version : ℕ) (net : Net) (landmarks : List ℕ) (rows : List Row) : Type 0 where
+pub record AreRowsOfLandmarks (version : ℕ) (net : Net) (landmarks : List ℕ) (rows : List Row) : Type 0 where
   pub landmarks_are : map (λ row. row.landmark) rows ≡ landmarks
   pub each : All (IsRowAt version net) rows
 
 -- the workers have the rows of their shares of these landmarks, in the order of the workers
-pub record AreDealt (version : ℕ) (net : Net) (workers : ℕ) (landmarks : List ℕ) (parts : List (List Row)) : Type 0 where
+pub record AreSharesDealt (version : ℕ) (net : Net) (workers : ℕ) (landmarks : List ℕ) (parts : List (List Row)) : Type 0 where
   pub length_is : length parts ≡ workers
-  pub each : (worker : ℕ) → worker < workers → AreRowsOf version net (share_of workers worker landmarks) (slice_index_or parts worker [])
+  pub each : (worker : ℕ) → worker < workers → AreRowsOfLandmarks version net (share_of workers worker landmarks) (slice_index_or parts worker [])

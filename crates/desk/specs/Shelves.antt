@@ -54,8 +54,8 @@ IsAfter None groups = ⊥
 IsAfter (Some front) groups = front.groups ≡ groups
 
 -- a row of this source stands at this place
-abbrev pub IsRowAt : ℕ → List KeptRow → ℕ → Type 0
-IsRowAt source rows place = (place < length rows) × ((any : KeptRow) → (slice_index_or rows place any).source ≡ source)
+abbrev pub IsKeptRowAt : ℕ → List KeptRow → ℕ → Type 0
+IsKeptRowAt source rows place = (place < length rows) × ((any : KeptRow) → (slice_index_or rows place any).source ≡ source)
 
 -- this version and source stand at this place
 abbrev pub IsAskedAt : ℕ → ℕ → List (ℕ × ℕ) → ℕ → Type 0
@@ -66,12 +66,12 @@ abbrev pub HasNoRow : ℕ → List KeptRow → Type 0
 HasNoRow source rows = All (λ kept. kept.source ≢ source) rows
 
 -- this version and source were asked, or weren't
-abbrev pub IsAsked : ℕ → ℕ → List (ℕ × ℕ) → Type 0
-IsAsked version source asked = (place : ℕ) × IsAskedAt version source asked place
+abbrev pub IsRowAsked : ℕ → ℕ → List (ℕ × ℕ) → Type 0
+IsRowAsked version source asked = (place : ℕ) × IsAskedAt version source asked place
 
 abbrev pub IsNotAsked : ℕ → ℕ → List (ℕ × ℕ) → Type 0
 IsNotAsked version source asked = All (λ key. key ≢ (version, source)) asked
 
 -- a row of this source is kept
 abbrev pub HasRow : ℕ → List KeptRow → Type 0
-HasRow source rows = (place : ℕ) × IsRowAt source rows place
+HasRow source rows = (place : ℕ) × IsKeptRowAt source rows place

@@ -32,8 +32,8 @@ pub record IsStateOf (m : Machine) (network : Net) (flusher_ended builder_ended 
   pub room : state.room ≡ network.room
 
 -- all numbers are those of this state of the machine
-abbrev pub StandsIn : Machine → Bool → Bool → DeskState → Type 0
-StandsIn m flusher_ended builder_ended state = (network : Net) × (network_at m m.shown ≡ Some network) × IsStateOf m network flusher_ended builder_ended state
+abbrev pub StateStandsIn : Machine → Bool → Bool → DeskState → Type 0
+StateStandsIn m flusher_ended builder_ended state = (network : Net) × (network_at m m.shown ≡ Some network) × IsStateOf m network flusher_ended builder_ended state
 
 -- the desk stood so in some state of its machine
 pub record StoodSo (origin : Origin) (state : DeskState) : Type 0 where

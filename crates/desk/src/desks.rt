@@ -14,7 +14,7 @@ use crate::served::{Served, ServedApart};
 use crate::threads::building::build_views;
 use crate::threads::flushing::flush_pending;
 use crate::threads::plans::Plan;
-use crate::threads::starting::{Started, start_thread};
+use crate::threads::starting::{StartedThreads, start_thread};
 use history::History;
 use office::{Closed, Office};
 use roadnet::Refusal;
@@ -43,7 +43,7 @@ fn start_both<S: Served + Send + 'static>(
     rt: S::Runtime,
     shared: &Arc<Shared<S>>,
     plan: Plan,
-) -> Result<Started, Refusal>
+) -> Result<StartedThreads, Refusal>
 where
     S::Naming: Send + Sync + 'static,
     S::Disk: Send + 'static,
@@ -68,7 +68,7 @@ where
         flusher.join(&rt);
         return Err(Refusal::NoThread);
     };
-    Ok(Started { flusher, builder })
+    Ok(StartedThreads { flusher, builder })
 }
 
 /// A store that is served: one thread makes groups durable, and another shows them. It has the calls of its handle, which it lends to other threads.
@@ -77,7 +77,7 @@ where
 /// remaining handle is refused (61).
 pub struct Desk<S: Served> {
     handle: Handle<S>,
-    threads: Started,
+    threads: StartedThreads,
     // How the builder builds views.
     plan: Plan,
 }

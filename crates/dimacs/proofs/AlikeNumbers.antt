@@ -6,7 +6,7 @@ use Rattle.std.specs.Option.{option_map_or, option_map}
 use Rattle.std.specs.Str.{bytes_eq}
 use Rattle.std.proofs.lemmas.Bool.{lt-ltb, or_parts}
 use Rattle.dimacs.specs.declared.numerals.numeral.Numeral.{Numeral}
-use Rattle.dimacs.specs.Alike.{AreAlike, AllAlike}
+use Rattle.dimacs.specs.Alike.{AreFieldsAlike, AllAlike}
 use Rattle.dimacs.specs.Content.{size_at}
 use Rattle.dimacs.specs.Faults.{Row, is_malformed, some_numeral, some_at, is_unreadable, size_of}
 use Rattle.dimacs.specs.Numerals.{numeral, kept}
@@ -16,11 +16,11 @@ use Rattle.dimacs.proofs.Items.{kept_is, unreadable_kept}
 
 -- Words.
 
-pub word_same : (x y word : List ℕ) → AreAlike x y → ltb 16 (length word) ≡ false → bytes_eq x word ≡ bytes_eq y word
+pub word_same : (x y word : List ℕ) → AreFieldsAlike x y → ltb 16 (length word) ≡ false → bytes_eq x word ≡ bytes_eq y word
 word_same x y word (inl e) short = rw e refl
 word_same x y word (inr e) short = long_no_word x word (lt-ltb _ _ e.0) short ∙ sym (long_no_word y word (lt-ltb _ _ e.1) short)
 
-pub word_is_same : (word x y : List ℕ) → AreAlike x y → ltb 16 (length word) ≡ false → bytes_eq word x ≡ bytes_eq word y
+pub word_is_same : (word x y : List ℕ) → AreFieldsAlike x y → ltb 16 (length word) ≡ false → bytes_eq word x ≡ bytes_eq word y
 word_is_same word x y (inl e) short = rw e refl
 word_is_same word x y (inr e) short = word_no_long word x (lt-ltb _ _ e.0) short ∙ sym (word_no_long word y (lt-ltb _ _ e.1) short)
 
@@ -45,7 +45,7 @@ starts_same (w ∷ ws) (x ∷ xs) (y ∷ ys) short alike =
 
 -- Numbers.
 
-pub kept_same : (x y : List ℕ) → AreAlike x y → option_map kept (numeral x) ≡ option_map kept (numeral y)
+pub kept_same : (x y : List ℕ) → AreFieldsAlike x y → option_map kept (numeral x) ≡ option_map kept (numeral y)
 kept_same x y (inl e) = rw e refl
 kept_same x y (inr e) = e.2
 
@@ -57,7 +57,7 @@ through : (test : Numeral → Bool) → SeesKept test → (o : Option Numeral) �
 through test sees None = refl
 through test sees (Some n) = sees n
 
-pub tested_same : (test : Numeral → Bool) → SeesKept test → (x y : List ℕ) → AreAlike x y → option_map_or test (numeral x) false ≡ option_map_or test (numeral y) false
+pub tested_same : (test : Numeral → Bool) → SeesKept test → (x y : List ℕ) → AreFieldsAlike x y → option_map_or test (numeral x) false ≡ option_map_or test (numeral y) false
 tested_same test sees x y e = sym (through test sees (numeral x)) ∙ ap (λ (o : Option Numeral). option_map_or test o false) (kept_same x y e) ∙ through test sees (numeral y)
 
 none_through : (o : Option Numeral) → is_none (option_map kept o) ≡ is_none o
@@ -68,15 +68,15 @@ some_through : (o : Option Numeral) → is_some (option_map kept o) ≡ is_some 
 some_through None = refl
 some_through (Some n) = refl
 
-pub none_same : (x y : List ℕ) → AreAlike x y → is_none (numeral x) ≡ is_none (numeral y)
+pub none_same : (x y : List ℕ) → AreFieldsAlike x y → is_none (numeral x) ≡ is_none (numeral y)
 none_same x y e = sym (none_through (numeral x)) ∙ ap (λ (o : Option Numeral). is_none o) (kept_same x y e) ∙ none_through (numeral y)
 
-pub some_same : (x y : List ℕ) → AreAlike x y → is_some (numeral x) ≡ is_some (numeral y)
+pub some_same : (x y : List ℕ) → AreFieldsAlike x y → is_some (numeral x) ≡ is_some (numeral y)
 some_same x y e = sym (some_through (numeral x)) ∙ ap (λ (o : Option Numeral). is_some o) (kept_same x y e) ∙ some_through (numeral y)
 
 -- Fields.
 
-pub any_same : (test : List ℕ → Bool) → ((x y : List ℕ) → AreAlike x y → test x ≡ test y) → (xs ys : Row) → AllAlike xs ys → list_any test xs ≡ list_any test ys
+pub any_same : (test : List ℕ → Bool) → ((x y : List ℕ) → AreFieldsAlike x y → test x ≡ test y) → (xs ys : Row) → AllAlike xs ys → list_any test xs ≡ list_any test ys
 any_same test same [] [] alike = refl
 any_same test same [] (y ∷ ys) alike = absurd alike
 any_same test same (x ∷ xs) [] alike = absurd alike
@@ -111,10 +111,10 @@ exact (Some n) (Some m) e readable =
     let other : is_unreadable m ≡ false = sym (unreadable_kept m) ∙ ap is_unreadable (sym same) ∙ unreadable_kept n ∙ readable in
     ap Some (sym (kept_is n readable) ∙ same ∙ kept_is m other)
 
-pub exactly : (x y : List ℕ) → AreAlike x y → option_map_or is_unreadable (numeral x) false ≡ false → numeral x ≡ numeral y
+pub exactly : (x y : List ℕ) → AreFieldsAlike x y → option_map_or is_unreadable (numeral x) false ≡ false → numeral x ≡ numeral y
 exactly x y e readable = exact (numeral x) (numeral y) (kept_same x y e) readable
 
-pub size_same : (x y : List ℕ) → AreAlike x y → option_map_or is_unreadable (numeral x) false ≡ false → size_of x ≡ size_of y
+pub size_same : (x y : List ℕ) → AreFieldsAlike x y → option_map_or is_unreadable (numeral x) false ≡ false → size_of x ≡ size_of y
 size_same x y e readable = ap (λ (o : Option Numeral). option_map_or (λ n. n.size) o 0) (exactly x y e readable)
 
 pub sizes_same : (xs ys : Row) → AllAlike xs ys → some_numeral is_unreadable xs ≡ false → map size_of xs ≡ map size_of ys

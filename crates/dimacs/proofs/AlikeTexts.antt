@@ -10,8 +10,8 @@ use Rattle.dimacs.specs.declared.fault.Code.{Code}
 use Rattle.dimacs.specs.declared.fault.Code.TheVariants.{BadLine, NoProblemLine, SecondProblemLine, WrongKind, NumberRange, NodeRange, LengthRange, LineCount, TooLarge}
 use Rattle.dimacs.specs.declared.graphs.gr_lines.GrLines.{GrLines}
 use Rattle.dimacs.specs.Alike.{AllAlike, SaySame}
-use Rattle.dimacs.specs.Content.{arc_from, arc_of, size_at}
-use Rattle.dimacs.specs.Faults.{Row, or_else, is_problem, is_item, has_kind, count_fields, some_numeral, some_at, is_unreadable, is_under, is_over, is_no_node, is_no_length, size_of, nodes_of, problem_of, announced, applies, code_of}
+use Rattle.dimacs.specs.Content.{arc_of_line, arc_of, size_at}
+use Rattle.dimacs.specs.Faults.{Row, or_else, is_problem, is_item, has_kind, count_fields, some_numeral, some_at, is_unreadable, is_under, is_over, is_no_node, is_no_length, size_of, announced_nodes_of, problem_of, announced, applies, code_of}
 use Rattle.dimacs.specs.Format.{Format, Quantity, gr}
 use Rattle.dimacs.specs.Listed.{listed, items_in, HasItems}
 use Rattle.dimacs.specs.Progress.{HasTaken}
@@ -86,7 +86,7 @@ module _ (f : Format) (short_kind : list_all (λ w. not (ltb 16 (length w))) f.k
   module _ (none : applies f earlier (x ∷ xs) NumberRange ≡ false) where
     node_same : applies f earlier (x ∷ xs) NodeRange ≡ applies f earlier (x ∷ ys) NodeRange
     unfolding applies
-    node_same = behind_test (is_item f (x ∷ xs)) _ _ (λ item. some_at_same (is_no_node (nodes_of f earlier)) f.numbers xs ys alike (readable_items none item))
+    node_same = behind_test (is_item f (x ∷ xs)) _ _ (λ item. some_at_same (is_no_node (announced_nodes_of f earlier)) f.numbers xs ys alike (readable_items none item))
 
     length_same : applies f earlier (x ∷ xs) LengthRange ≡ applies f earlier (x ∷ ys) LengthRange
     unfolding applies
@@ -170,7 +170,7 @@ text_code_same f short earlier (x ∷ xs) (y ∷ ys) same = rw (← same.0) (row
 arc_same : (earlier : List Row) (x : List ℕ) (xs ys : Row) → AllAlike xs ys → code_of gr earlier (x ∷ xs) ≡ None → arc_of (x ∷ xs) ≡ arc_of (x ∷ ys)
 arc_same earlier x xs ys alike clean = by (is_item gr (x ∷ xs)) refl
   where
-    by : (b : Bool) → is_item gr (x ∷ xs) ≡ b → cond b (Some (arc_from xs)) None ≡ cond b (Some (arc_from ys)) None
+    by : (b : Bool) → is_item gr (x ∷ xs) ≡ b → cond b (Some (arc_of_line xs)) None ≡ cond b (Some (arc_of_line ys)) None
     by false e = refl
     by true e =
         let same = items_said gr refl earlier x xs ys alike clean e in

@@ -1,7 +1,7 @@
 -- Lines that say the same.
 use Rattle.std.proofs.Common.{◌≡◌, ℕ, ◌<◌, Bool, true, false, List, [], ◌∷◌, ◌++◌, length, None, Result, Ok, Err, refl, ◌∙◌, arith, inl, inr}
 use Rattle.dimacs.specs.declared.fault.Code.{Code}
-use Rattle.dimacs.specs.Alike.{AreAlike, AllAlike, SaySame}
+use Rattle.dimacs.specs.Alike.{AreFieldsAlike, AllAlike, SaySame}
 use Rattle.dimacs.specs.Faults.{Row, Judge, is_remark}
 use Rattle.dimacs.specs.Joint.{is_run}
 use Rattle.dimacs.specs.Progress.{TakesOrRuns}
@@ -18,7 +18,7 @@ same_row (x ∷ xs) = (refl, all_alike xs)
 pub same_is : (one other : Row) → one ≡ other → SaySame one other
 same_is one other e = rw e (same_row other)
 
-alike_then : (x y z : List ℕ) → AreAlike x y → AreAlike y z → AreAlike x z
+alike_then : (x y z : List ℕ) → AreFieldsAlike x y → AreFieldsAlike y z → AreFieldsAlike x z
 alike_then x y z (inl e) (inl f) = inl (e ∙ f)
 alike_then x y z (inl e) (inr f) = inr (rw e f.0, f.1, rw e f.2)
 alike_then x y z (inr e) (inl f) = inr (e.0, (rw (← f) e.1), (rw (← f) e.2))
@@ -39,7 +39,7 @@ same_then (x ∷ xs) (y ∷ ys) [] e f = absurd f
 same_then (x ∷ xs) (y ∷ ys) (z ∷ zs) e f = (e.0 ∙ f.0, all_then xs ys zs e.1 f.1)
 
 -- one field is another, which is not the first
-pub one_differs : (before : Row) (f g : List ℕ) (after : Row) → 0 < length before → AreAlike f g → SaySame (before ++ f ∷ after) (before ++ g ∷ after)
+pub one_differs : (before : Row) (f g : List ℕ) (after : Row) → 0 < length before → AreFieldsAlike f g → SaySame (before ++ f ∷ after) (before ++ g ∷ after)
 one_differs [] f g after some alike = absurd (omega (arith, some))
 one_differs (x ∷ xs) f g after some alike = (refl, go xs)
   where

@@ -12,7 +12,7 @@ use Rattle.dimacs.specs.declared.commands.words.OneNumber.{OneNumber}
 use Rattle.dimacs.specs.declared.commands.words.OneNumber.TheVariants.{Close, Reopen, Mark, Unmark}
 use Rattle.dimacs.specs.Commands.{Form, form, commands, form_of, is_refused, command_applies, command_code}
 use Rattle.dimacs.specs.Commanded.{command_of}
-use Rattle.dimacs.specs.CommandReading.{number_read, numbers_read, three_read, ReadsLine}
+use Rattle.dimacs.specs.CommandReading.{number_read, numbers_read, three_read, ReadsCommandLine}
 use Rattle.dimacs.specs.Content.{size_at}
 use Rattle.dimacs.specs.Faults.{Row, is_empty, is_remark, is_malformed}
 use Rattle.dimacs.specs.Numerals.{numeral, kept}
@@ -33,11 +33,11 @@ ignored_command ((b ∷ bs) ∷ others) e =
     let some : ltb 0 (length (b ∷ bs)) ≡ true = lt-ltb _ _ (omega arith) in
     no_command b bs others (eqb-true b 35 (rw some at e))
 
-pub ignored_row : (row : Row) → (is_empty row || is_remark 35 row) ≡ true → ReadsLine row (Ok None)
+pub ignored_row : (row : Row) → (is_empty row || is_remark 35 row) ≡ true → ReadsCommandLine row (Ok None)
 unfolding command_code
 ignored_row row e = ((λ earlier. rw e refl), ignored_command row e)
 
-pub unknown_row : (row : Row) → (is_empty row || is_remark 35 row) ≡ false → form_of commands row ≡ None → ReadsLine row (Err BadLine)
+pub unknown_row : (row : Row) → (is_empty row || is_remark 35 row) ≡ false → form_of commands row ≡ None → ReadsCommandLine row (Err BadLine)
 unfolding command_code
 unknown_row row e f = λ earlier. rw (e, f) refl
 
@@ -139,8 +139,8 @@ module _ (word : List ℕ) (make : ℕ → Command) (plain : (numbers : Row) →
   malformed_number earlier numbers e = rw (plain numbers, formed numbers, e) refl
 
   abbrev RightNumber : Row → Result ℕ Code → Type 0
-  RightNumber numbers (Ok x) = ReadsLine (word ∷ numbers) (Ok (Some (make x)))
-  RightNumber numbers (Err code) = ReadsLine (word ∷ numbers) (Err code)
+  RightNumber numbers (Ok x) = ReadsCommandLine (word ∷ numbers) (Ok (Some (make x)))
+  RightNumber numbers (Err code) = ReadsCommandLine (word ∷ numbers) (Err code)
 
   number_row : (numbers : Row) → RightNumber numbers (number_read (one_numeral numbers))
   number_row =
@@ -149,10 +149,10 @@ module _ (word : List ℕ) (make : ℕ → Command) (plain : (numbers : Row) →
       (λ u a e bad earlier. code_of_number earlier u a e ∙ rw bad refl)
       (λ u a e good. ((λ earlier. code_of_number earlier u a e ∙ rw good refl), made (u ∷ [])))
 
-  number_says : (row numbers : Row) (x : ℕ) → row ≡ word ∷ numbers → Ok x ≡ number_read (one_numeral numbers) → ReadsLine row (Ok (Some (make x)))
+  number_says : (row numbers : Row) (x : ℕ) → row ≡ word ∷ numbers → Ok x ≡ number_read (one_numeral numbers) → ReadsCommandLine row (Ok (Some (make x)))
   number_says row numbers x e is = rw e (subst (RightNumber numbers) (sym is) (number_row numbers))
 
-  number_fault : (row numbers : Row) (code : Code) → row ≡ word ∷ numbers → Err code ≡ number_read (one_numeral numbers) → ReadsLine row (Err code)
+  number_fault : (row numbers : Row) (code : Code) → row ≡ word ∷ numbers → Err code ≡ number_read (one_numeral numbers) → ReadsCommandLine row (Err code)
   number_fault row numbers code e is = rw e (subst (RightNumber numbers) (sym is) (number_row numbers))
 
 -- such a word is one of the words with one number
@@ -174,10 +174,10 @@ one_made Reopen numbers = refl
 one_made Mark numbers = refl
 one_made Unmark numbers = refl
 
-pub one_says : (word : OneNumber) (row numbers : Row) (x : ℕ) → row ≡ one_spelling word ∷ numbers → Ok x ≡ number_read (one_numeral numbers) → ReadsLine row (Ok (Some (one_command word x)))
+pub one_says : (word : OneNumber) (row numbers : Row) (x : ℕ) → row ≡ one_spelling word ∷ numbers → Ok x ≡ number_read (one_numeral numbers) → ReadsCommandLine row (Ok (Some (one_command word x)))
 one_says word = number_says (one_spelling word) (one_command word) (one_plain word) (one_formed word) (one_made word)
 
-pub one_fault : (word : OneNumber) (row numbers : Row) (code : Code) → row ≡ one_spelling word ∷ numbers → Err code ≡ number_read (one_numeral numbers) → ReadsLine row (Err code)
+pub one_fault : (word : OneNumber) (row numbers : Row) (code : Code) → row ≡ one_spelling word ∷ numbers → Err code ≡ number_read (one_numeral numbers) → ReadsCommandLine row (Err code)
 one_fault word = number_fault (one_spelling word) (one_command word) (one_plain word) (one_formed word) (one_made word)
 
 -- `set` and its two numbers
@@ -191,8 +191,8 @@ unfolding command_code
 malformed_numbers earlier numbers e = rw e refl
 
 abbrev RightNumbers : Row → Result (ℕ × ℕ) Code → Type 0
-RightNumbers numbers (Ok x) = ReadsLine (codes "set" ∷ numbers) (Ok (Some (Set x.0 x.1)))
-RightNumbers numbers (Err code) = ReadsLine (codes "set" ∷ numbers) (Err code)
+RightNumbers numbers (Ok x) = ReadsCommandLine (codes "set" ∷ numbers) (Ok (Some (Set x.0 x.1)))
+RightNumbers numbers (Err code) = ReadsCommandLine (codes "set" ∷ numbers) (Err code)
 
 numbers_row : (numbers : Row) → RightNumbers numbers (numbers_read (two_numerals numbers))
 numbers_row =
@@ -201,10 +201,10 @@ numbers_row =
     (λ u v a b d e bad earlier. code_of_numbers earlier u v a b d e ∙ rw bad refl)
     (λ u v a b d e good. ((λ earlier. code_of_numbers earlier u v a b d e ∙ rw good refl), refl))
 
-pub set_says : (row numbers : Row) (x y : ℕ) → row ≡ codes "set" ∷ numbers → Ok (x, y) ≡ numbers_read (two_numerals numbers) → ReadsLine row (Ok (Some (Set x y)))
+pub set_says : (row numbers : Row) (x y : ℕ) → row ≡ codes "set" ∷ numbers → Ok (x, y) ≡ numbers_read (two_numerals numbers) → ReadsCommandLine row (Ok (Some (Set x y)))
 set_says row numbers x y e is = rw e (subst (RightNumbers numbers) (sym is) (numbers_row numbers))
 
-pub set_fault : (row numbers : Row) (code : Code) → row ≡ codes "set" ∷ numbers → Err code ≡ numbers_read (two_numerals numbers) → ReadsLine row (Err code)
+pub set_fault : (row numbers : Row) (code : Code) → row ≡ codes "set" ∷ numbers → Err code ≡ numbers_read (two_numerals numbers) → ReadsCommandLine row (Err code)
 set_fault row numbers code e is = rw e (subst (RightNumbers numbers) (sym is) (numbers_row numbers))
 
 -- `lay` and its three numbers
@@ -218,8 +218,8 @@ unfolding command_code
 malformed_three earlier numbers e = rw e refl
 
 abbrev RightThree : Row → Result (ℕ × ℕ × ℕ) Code → Type 0
-RightThree numbers (Ok x) = ReadsLine (codes "lay" ∷ numbers) (Ok (Some (Lay x.0 x.1 x.2)))
-RightThree numbers (Err code) = ReadsLine (codes "lay" ∷ numbers) (Err code)
+RightThree numbers (Ok x) = ReadsCommandLine (codes "lay" ∷ numbers) (Ok (Some (Lay x.0 x.1 x.2)))
+RightThree numbers (Err code) = ReadsCommandLine (codes "lay" ∷ numbers) (Err code)
 
 three_row : (numbers : Row) → RightThree numbers (three_read (three_numerals numbers))
 three_row =
@@ -228,10 +228,10 @@ three_row =
     (λ u v w a b d e f g bad earlier. code_of_three earlier u v w a b d e f g ∙ rw bad refl)
     (λ u v w a b d e f g good. ((λ earlier. code_of_three earlier u v w a b d e f g ∙ rw good refl), refl))
 
-pub lay_says : (row numbers : Row) (x y z : ℕ) → row ≡ codes "lay" ∷ numbers → Ok (x, y, z) ≡ three_read (three_numerals numbers) → ReadsLine row (Ok (Some (Lay x y z)))
+pub lay_says : (row numbers : Row) (x y z : ℕ) → row ≡ codes "lay" ∷ numbers → Ok (x, y, z) ≡ three_read (three_numerals numbers) → ReadsCommandLine row (Ok (Some (Lay x y z)))
 lay_says row numbers x y z e is = rw e (subst (RightThree numbers) (sym is) (three_row numbers))
 
-pub lay_fault : (row numbers : Row) (code : Code) → row ≡ codes "lay" ∷ numbers → Err code ≡ three_read (three_numerals numbers) → ReadsLine row (Err code)
+pub lay_fault : (row numbers : Row) (code : Code) → row ≡ codes "lay" ∷ numbers → Err code ≡ three_read (three_numerals numbers) → ReadsCommandLine row (Err code)
 lay_fault row numbers code e is = rw e (subst (RightThree numbers) (sym is) (three_row numbers))
 
 pub code_of_table : (forms : List Form) (earlier : List Row) (row : Row) (code : Code) → command_code forms earlier row ≡ Some code → IsOfTable code

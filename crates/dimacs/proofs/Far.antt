@@ -16,10 +16,10 @@ use Rattle.dimacs.specs.declared.fault.Code.{Code}
 use Rattle.dimacs.proofs.Items.{by_code_of, by_memory_of}
 use Rattle.dimacs.specs.Lines.{is_line_feed, lines, fields, rows}
 use Rattle.dimacs.specs.Faults.{Row, Judge, or_else, fault_at, first_fault}
-use Rattle.dimacs.specs.Joint.{is_run, before_run, after_run, has_run, taken_of, left_of}
+use Rattle.dimacs.specs.Joint.{is_run, before_run, after_run, has_run, taken_of, lines_left}
 use Rattle.dimacs.specs.Taking.{Takes, ByCode, ByMemory}
 use Rattle.dimacs.specs.Ends.{TakenAll, RunsOut, BreaksOff, FailsIn, ReadAll}
-use Rattle.dimacs.specs.Progress.{StandsFor, TakesOrRuns, Within, BeforeRun, StopsAt}
+use Rattle.dimacs.specs.Progress.{StandsForFront, TakesOrRuns, Within, BeforeRun, StopsAt}
 use Rattle.dimacs.specs.Overflow.{IsFaultOfFront}
 use Rattle.dimacs.proofs.Pieces.{line_before_feed, line_at_end, known_position, first_line, last_line}
 use Rattle.dimacs.proofs.Fronts.{line_begun}
@@ -220,7 +220,7 @@ module _ {S : Type 0} (judge : Judge) (has_taken : List Row → S → Type 0) (m
       }
 
   pub kept_front : (rest after : List ℕ) (old new : Feed S) → (at : Within judge has_taken mark text (rest ++ after) old) → All (λ b. b ≢ 10) rest
-      → ((front : List ℕ) → StandsFor mark front old.kept.bytes.items → StandsFor mark (front ++ rest) new.kept.bytes.items)
+      → ((front : List ℕ) → StandsForFront mark front old.kept.bytes.items → StandsForFront mark (front ++ rest) new.kept.bytes.items)
       → new.taker ≡ old.taker → new.until_run ≡ old.until_run → new.lines ≡ old.lines
       → Within judge has_taken mark text after new
   kept_front rest after old new at in_rest stands taker same lines =
@@ -276,7 +276,7 @@ taken_all : (until : Bool) (lines : List Row) → (until ≡ true → has_run li
 taken_all false lines none = refl
 taken_all true lines none = sym (ap before_run (append-nil lines)) ∙ before_run-append lines [] (none refl) ∙ append-nil lines
 
-left_none : (until : Bool) (lines : List Row) → (until ≡ true → has_run lines ≡ false) → left_of until lines ≡ []
+left_none : (until : Bool) (lines : List Row) → (until ≡ true → has_run lines ≡ false) → lines_left until lines ≡ []
 left_none false lines none = refl
 left_none true lines none = sym (ap after_run (append-nil lines)) ∙ after_run-append lines [] (none refl)
 
@@ -308,7 +308,7 @@ module _ {S : Type 0} (judge : Judge) (has_taken : List Row → S → Type 0) wh
       let front : before_run (run.row ∷ rows left) ≡ [] = rw run.is refl in
       let back : after_run (run.row ∷ rows left) ≡ rows left = rw run.is refl in
       let taken : taken_of until (rows text) ≡ run.earlier = rw (is, run.lines) (before_run-append run.earlier (run.row ∷ rows left) run.no_run ∙ ap (λ (l : List Row). run.earlier ++ l) front ∙ append-nil run.earlier) in
-      let rest : left_of until (rows text) ≡ rows left = rw (is, run.lines) (after_run-append run.earlier (run.row ∷ rows left) run.no_run ∙ back) in
+      let rest : lines_left until (rows text) ≡ rows left = rw (is, run.lines) (after_run-append run.earlier (run.row ∷ rows left) run.no_run ∙ back) in
       record {
         lines = rw taken (record { clean = run.clean; taken = rw taker run.taken; count = lines ∙ sym run.count });
         at_run = at ∙ rw (is, run.lines) (sym (has_run_at run.earlier run.row (rows left) run.is));

@@ -16,7 +16,7 @@ use Rattle.dimacs.specs.declared.numerals.numeral.Numeral.{Numeral}
 use Rattle.dimacs.specs.declared.graphs.problem.Problem.{Problem}
 use Rattle.dimacs.specs.declared.fault.Code.TheVariants.{BadLine, SecondProblemLine, WrongKind, NumberRange, NodeRange, LengthRange, LineCount, TooLarge}
 use Rattle.dimacs.specs.Faults.{Row, is_under, is_over}
-use Rattle.dimacs.specs.Reading.{two_numerals, counted, problem_of_numerals, problem_after, item_after}
+use Rattle.dimacs.specs.Reading.{two_numerals, counted_problem, problem_of_numerals, problem_after, item_after}
 use Rattle.dimacs.specs.Fits.{Fits}
 use Rattle.dimacs.proofs.Items.{known}
 use Rattle.dimacs.proofs.Problems.{cond_ok}
@@ -61,7 +61,7 @@ pub first_problem : (has : Bool) (words : Row) (p : Problem) → problem_after h
 first_problem has words p e =
     elim (cases_Bool (starts_with bytes_eq words (codes "sp" ∷ []))) [
       | inl kind ↦
-          let counted_is : counted has (two_numerals (drop 1 words)) ≡ Ok p = rw kind at e in
+          let counted_is : counted_problem has (two_numerals (drop 1 words)) ≡ Ok p = rw kind at e in
           elim (known (two_numerals (drop 1 words))) [
             | inl none ↦ absurd (let wrong : Err BadLine ≡ Ok p = rw none at counted_is in cc)
             | inr (two, read) ↦

@@ -10,7 +10,7 @@ use Rattle.std.proofs.lemmas.List.Folds.{prefix_len-append}
 use Rattle.std.proofs.lemmas.List.Splits.{slice_split-cons_yes, slice_split-cons_no, length-slice_split}
 use Rattle.std.proofs.Math.Seq.{take-append-add}
 use Rattle.dimacs.specs.Lines.{is_line_feed, is_blank, is_not_empty, fields, rows}
-use Rattle.dimacs.specs.Overflow.{GoesOn, EndsInBlank, IsBlankFront, is_beyond, OverflowsBehind, Overflowing}
+use Rattle.dimacs.specs.Overflow.{LineGoesOn, EndsInBlank, IsBlankFront, is_beyond, OverflowsBehind, Overflowing}
 use Rattle.dimacs.proofs.Beyond.{beyond_more}
 use Rattle.dimacs.proofs.Pieces.{start_is, position_some, first_field, position_none, fields_blank, known_position, no_feed, at_feed, line_before_feed, line_at_end}
 
@@ -42,7 +42,7 @@ some_left n xs b bs e = omega (arith, length-drop n xs, ap length e)
 -- the first field goes on, where nothing follows it
 pub goes_on : (front : List ℕ) (i : ℕ) (first rest more : List ℕ) → position (λ b. not (is_blank b)) front ≡ Some i
     → first ≡ take (position_or_len is_blank (drop i front)) (drop i front) → rest ≡ drop (position_or_len is_blank (drop i front)) (drop i front)
-    → GoesOn front first rest more
+    → LineGoesOn front first rest more
 goes_on front i first [] more e is_first is_rest =
     let D = drop i front in
     let at = position_some _ front i e in
@@ -200,21 +200,21 @@ pub record Passed (front rest : List ℕ) (count : ℕ) : Type 0 where
 pub none_passed : (front : List ℕ) → Passed front front 0
 none_passed front = record { before = []; count_is = refl; goes = λ more. refl }
 
-field_ends : (front first rest more : List ℕ) → 0 < length rest → GoesOn front first rest more → fields (front ++ more) ≡ first ∷ fields (rest ++ more)
+field_ends : (front first rest more : List ℕ) → 0 < length rest → LineGoesOn front first rest more → fields (front ++ more) ≡ first ∷ fields (rest ++ more)
 field_ends front first [] more some goes = absurd (omega arith)
 field_ends front first (b ∷ rest) more some goes = goes
 
-pub one_passed : (front rest field behind : List ℕ) (count : ℕ) → Passed front rest count → ((more : List ℕ) → GoesOn rest field behind more) → 0 < length behind → Passed front behind (count + 1)
+pub one_passed : (front rest field behind : List ℕ) (count : ℕ) → Passed front rest count → ((more : List ℕ) → LineGoesOn rest field behind more) → 0 < length behind → Passed front behind (count + 1)
 one_passed front rest field behind count passed goes some = record {
   before = passed.before ++ field ∷ [];
   count_is = omega (arith, passed.count_is, length-append passed.before (field ∷ []));
   goes = λ more. passed.goes more ∙ ap (λ (l : List (List ℕ)). passed.before ++ l) (field_ends rest field behind more some (goes more)) ∙ sym (append_assoc passed.before (field ∷ []) (fields (behind ++ more)));
 }
 
-pub overflows_here : (front rest field behind : List ℕ) (count : ℕ) → Passed front rest count → ((more : List ℕ) → GoesOn rest field behind more) → is_beyond count field ≡ true → Overflowing front
+pub overflows_here : (front rest field behind : List ℕ) (count : ℕ) → Passed front rest count → ((more : List ℕ) → LineGoesOn rest field behind more) → is_beyond count field ≡ true → Overflowing front
 overflows_here front rest field behind count passed goes beyond = (passed.before, λ more. at more behind (goes more))
   where
-    at : (more behind : List ℕ) → GoesOn rest field behind more → OverflowsBehind passed.before (fields (front ++ more))
+    at : (more behind : List ℕ) → LineGoesOn rest field behind more → OverflowsBehind passed.before (fields (front ++ more))
     at more [] (tail, others, is) = (field ++ tail, others, passed.goes more ∙ ap (λ (l : List (List ℕ)). passed.before ++ l) is, rw passed.count_is (beyond_more count field tail beyond))
     at more (b ∷ bs) is = (field, fields ((b ∷ bs) ++ more), passed.goes more ∙ ap (λ (l : List (List ℕ)). passed.before ++ l) is, rw passed.count_is beyond)
 

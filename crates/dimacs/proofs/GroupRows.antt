@@ -8,7 +8,7 @@ use Rattle.dimacs.specs.declared.commands.group_lines.GroupLines.{GroupLines}
 use Rattle.dimacs.specs.declared.fault.Code.{Code}
 use Rattle.dimacs.specs.Commands.{commands, command_code}
 use Rattle.dimacs.specs.Commanded.{Grouping, begins, command_of, ends, group_code, grouping_of, next_grouping}
-use Rattle.dimacs.specs.CommandReading.{HasGroups, ReadsLine, taken_grouping}
+use Rattle.dimacs.specs.CommandReading.{HasGroups, ReadsCommandLine, taken_grouping}
 use Rattle.dimacs.specs.Faults.{Row, is_empty, is_remark}
 use Rattle.dimacs.specs.OpenGroups.{is_full_group}
 use Rattle.dimacs.specs.Taking.{Takes}
@@ -70,13 +70,13 @@ module _ (earlier : List Row) (old : GroupLines) (has : HasGroups earlier old) w
           by_open (Some cs) e = takes_inside new cs e fits closed (opened ∙ ap (λ (o : Option (List Command)). option_map (λ (cs : List Command). cs ++ command ∷ []) o) e)
 
     -- ---- a line that says nothing, and a faulty one
-    pub takes_nothing : ReadsLine row (Ok None) → Takes group_code HasGroups earlier row old (Ok tt)
+    pub takes_nothing : ReadsCommandLine row (Ok None) → Takes group_code HasGroups earlier row old (Ok tt)
     takes_nothing reads = (
       other_clean earlier old.open opened_is row no_begin no_end (reads.0 earlier) reads.1,
       has_more earlier row old (grouping_of earlier) (next_other earlier old.open opened_is row no_begin no_end reads.1) has,
     )
 
-    pub takes_fault : (code : Code) (new : GroupLines) → ReadsLine row (Err code) → Takes group_code HasGroups earlier row new (Err code)
+    pub takes_fault : (code : Code) (new : GroupLines) → ReadsCommandLine row (Err code) → Takes group_code HasGroups earlier row new (Err code)
     takes_fault code new reads = told group_code earlier row code (code_of_table commands earlier row code (reads earlier)) (other_fault earlier old.open opened_is row no_begin no_end code (reads earlier))
 
 -- a comment says nothing, and neither begins nor ends a group

@@ -12,14 +12,14 @@ use Rattle.dimacs.specs.declared.fault.Code.TheVariants.{BadLine, NoProblemLine,
 use Rattle.roadnet.specs.Net.{longest_arc}
 use Rattle.dimacs.specs.Format.{Format, gr}
 use Rattle.dimacs.specs.Numerals.{numeral, kept}
-use Rattle.dimacs.specs.Faults.{Row, Judge, or_else, is_item, is_problem, is_malformed, is_unreadable, problem_of, announced, announced_items, nodes_of, items_of, applies, line_codes, code_of}
+use Rattle.dimacs.specs.Faults.{Row, Judge, or_else, is_item, is_problem, is_malformed, is_unreadable, problem_of, announced, announced_items, announced_nodes_of, items_of, applies, line_codes, code_of}
 use Rattle.dimacs.specs.Reading.{three_numerals, is_outside, arc_of_numerals, item_after}
-use Rattle.dimacs.specs.Content.{arc_from, arc_of}
+use Rattle.dimacs.specs.Content.{arc_of_line, arc_of}
 use Rattle.std.specs.List.{filter_map, cons_option, find, AllByRecursion}
 use Rattle.std.proofs.lemmas.List.{length-append}
 use Rattle.std.proofs.lemmas.List.Sums.{sum_by_push}
 use Rattle.dimacs.specs.declared.graphs.gr_lines.GrLines.{GrLines}
-use Rattle.dimacs.specs.Progress.{counts_of, HasTaken}
+use Rattle.dimacs.specs.Progress.{problem_counts, HasTaken}
 use Rattle.dimacs.specs.Taking.{Takes, ByCode, ByMemory}
 
 -- a value, unless there is a code
@@ -105,7 +105,7 @@ abbrev code_of_item : List Row → Numeral → Numeral → Numeral → Option Co
 code_of_item earlier a b c =
     cond (is_none (problem_of earlier)) (Some NoProblemLine)
     (cond (is_unreadable a || (is_unreadable b || is_unreadable c)) (Some NumberRange)
-    (cond (is_outside 1 (nodes_of gr earlier) a || is_outside 1 (nodes_of gr earlier) b) (Some NodeRange)
+    (cond (is_outside 1 (announced_nodes_of gr earlier) a || is_outside 1 (announced_nodes_of gr earlier) b) (Some NodeRange)
     (cond (is_outside 0 longest_arc c) (Some LengthRange)
     (cond (leb (announced_items gr earlier) (items_of gr earlier)) (Some LineCount) None))))
 
@@ -120,20 +120,20 @@ code_of_three earlier u v w a b c e f g = rw (e, f, g) (simp or-false)
 
 -- reading gives the code, or the arc
 abbrev RightItem : List Row → Option Problem → Row → Type 0
-RightItem earlier p numbers = or_code (code_of gr earlier (codes "a" ∷ numbers)) (arc_from numbers) ≡ item_after p (items_of gr earlier) (three_numerals numbers)
+RightItem earlier p numbers = or_code (code_of gr earlier (codes "a" ∷ numbers)) (arc_of_line numbers) ≡ item_after p (items_of gr earlier) (three_numerals numbers)
 
 same_arc : (p : Problem) (taken : ℕ) (a b c x y z : Numeral) → a ≡ x → b ≡ y → c ≡ z → arc_of_numerals p taken a b c ≡ arc_of_numerals p taken x y z
 same_arc p taken a b c x y z e f g = rw (e, f, g) refl
 
 item_of_numerals : (earlier : List Row) (p : Option Problem) (u v w : List ℕ) (a b c : Numeral) → numeral u ≡ Some a → numeral v ≡ Some b → numeral w ≡ Some c
-    → is_none (problem_of earlier) ≡ is_none p → announced gr earlier ≡ counts_of p → RightItem earlier p (u ∷ v ∷ w ∷ [])
+    → is_none (problem_of earlier) ≡ is_none p → announced gr earlier ≡ problem_counts p → RightItem earlier p (u ∷ v ∷ w ∷ [])
 item_of_numerals earlier None u v w a b c e f g none counts =
     let read : three_numerals (u ∷ v ∷ w ∷ []) ≡ Some (kept a, kept b, kept c) = rw (e, f, g) refl in
     rw (code_of_three earlier u v w a b c e f g, none, read) refl
 item_of_numerals earlier (Some p) u v w a b c e f g some counts =
     let read : three_numerals (u ∷ v ∷ w ∷ []) ≡ Some (kept a, kept b, kept c) = rw (e, f, g) refl in
-    let arc : arc_from (u ∷ v ∷ w ∷ []) ≡ record { tail = a.size; head = b.size; length = c.size; opened = true } = rw (e, f, g) refl in
-    let nodes : nodes_of gr earlier ≡ p.nodes = rw counts refl in
+    let arc : arc_of_line (u ∷ v ∷ w ∷ []) ≡ record { tail = a.size; head = b.size; length = c.size; opened = true } = rw (e, f, g) refl in
+    let nodes : announced_nodes_of gr earlier ≡ p.nodes = rw counts refl in
     let items : announced_items gr earlier ≡ p.items = rw counts refl in
     rw (code_of_three earlier u v w a b c e f g, read, arc) (elim (cases_Bool (is_unreadable a || (is_unreadable b || is_unreadable c))) [
       | inl big ↦ rw (some, unreadable_kept a, unreadable_kept b, unreadable_kept c, big) refl
@@ -145,7 +145,7 @@ item_of_numerals earlier (Some p) u v w a b c e f g some counts =
           plain ∙ same_arc p (items_of gr earlier) a b c (kept a) (kept b) (kept c) (sym (kept_is a parts.0)) (sym (kept_is b others.0)) (sym (kept_is c others.1))
     ])
 
-pub item_row : (earlier : List Row) (p : Option Problem) (numbers : Row) → is_none (problem_of earlier) ≡ is_none p → announced gr earlier ≡ counts_of p → RightItem earlier p numbers
+pub item_row : (earlier : List Row) (p : Option Problem) (numbers : Row) → is_none (problem_of earlier) ≡ is_none p → announced gr earlier ≡ problem_counts p → RightItem earlier p numbers
 item_row earlier p numbers none counts =
     elim (three_cases numbers) [
       | inl bad ↦ rw (malformed_code earlier numbers bad.1, bad.0) refl
@@ -185,10 +185,10 @@ pub items_push : (earlier : List Row) (row : Row) → items_of gr (earlier ++ ro
 items_push earlier row = sum_by_push (λ x. cond (is_item gr x) 1 0) earlier row
 
 right_item : (earlier : List Row) (numbers : Row) (arc : RoadArc) (old : GrLines) → HasTaken earlier old
-    → item_after old.problem (length old.arcs.items) (three_numerals numbers) ≡ Ok arc → (code_of gr earlier (codes "a" ∷ numbers) ≡ None) × (arc_from numbers ≡ arc)
+    → item_after old.problem (length old.arcs.items) (three_numerals numbers) ≡ Ok arc → (code_of gr earlier (codes "a" ∷ numbers) ≡ None) × (arc_of_line numbers ≡ arc)
 right_item earlier numbers arc old taken e =
-    let read : or_code (code_of gr earlier (codes "a" ∷ numbers)) (arc_from numbers) ≡ Ok arc = item_row earlier old.problem numbers taken.problem taken.counts ∙ rw taken.items e in
-    from_code (code_of gr earlier (codes "a" ∷ numbers)) (arc_from numbers) arc read
+    let read : or_code (code_of gr earlier (codes "a" ∷ numbers)) (arc_of_line numbers) ≡ Ok arc = item_row earlier old.problem numbers taken.problem taken.counts ∙ rw taken.items e in
+    from_code (code_of gr earlier (codes "a" ∷ numbers)) (arc_of_line numbers) arc read
   where
     from_code : (o : Option Code) (x arc : RoadArc) → or_code o x ≡ Ok arc → (o ≡ None) × (x ≡ arc)
     from_code None x arc e = (refl, cc)
@@ -215,8 +215,8 @@ takes_item earlier numbers arc old new taken e problem arcs =
 pub item_fault : (earlier : List Row) (numbers : Row) (code : Code) (old : GrLines) → HasTaken earlier old
     → item_after old.problem (length old.arcs.items) (three_numerals numbers) ≡ Err code → code_of gr earlier (codes "a" ∷ numbers) ≡ Some code
 item_fault earlier numbers code old taken e =
-    let read : or_code (code_of gr earlier (codes "a" ∷ numbers)) (arc_from numbers) ≡ Err code = item_row earlier old.problem numbers taken.problem taken.counts ∙ rw taken.items e in
-    from_code (code_of gr earlier (codes "a" ∷ numbers)) (arc_from numbers) code read
+    let read : or_code (code_of gr earlier (codes "a" ∷ numbers)) (arc_of_line numbers) ≡ Err code = item_row earlier old.problem numbers taken.problem taken.counts ∙ rw taken.items e in
+    from_code (code_of gr earlier (codes "a" ∷ numbers)) (arc_of_line numbers) code read
   where
     from_code : (o : Option Code) (x : RoadArc) (code : Code) → or_code o x ≡ Err code → o ≡ Some code
     from_code None x code e = absurd cc

@@ -11,7 +11,7 @@ use Rattle.dimacs.specs.Faults.{Row, code_of}
 use Rattle.dimacs.specs.Content.{gr_text}
 use Rattle.dimacs.specs.Joint.{before_run}
 use Rattle.dimacs.specs.Ends.{BreaksOff, FailsIn, ReadsLines}
-use Rattle.dimacs.specs.Texts.{Ends, map_ok}
+use Rattle.dimacs.specs.Texts.{EndsText, map_ok}
 use Rattle.dimacs.specs.Gr.{ReadsBeforeRun}
 use Rattle.dimacs.specs.Progress.{HasTaken}
 use Rattle.dimacs.proofs.Items.{by_code_of}
@@ -23,7 +23,7 @@ told_before_run (Some text) left fault read =
     same_code (FailsIn (code_of gr) text (before_run (rows text)) left fault.line) (BreaksOff (code_of gr) (rows text) (before_run (rows text)) fault.line) fault.code read (content_fault gr_text HasTaken (before_run (rows text)) fault)
 
 pub ended_before_run : (known left : Option (List ℕ)) (ended : Ended GrLines) (result : Result Net Fault) → IfSome known (λ text. ReadsLines (code_of gr) HasTaken true text left (Ok ended))
-    → ((lines : List Row) → HasTaken lines ended.taker → ended.lines ≡ length lines → Ends gr_text lines result) → IfSome known (λ text. ReadsBeforeRun text left (map_ok (λ net. (net, ended.at_run)) result))
+    → ((lines : List Row) → HasTaken lines ended.taker → ended.lines ≡ length lines → EndsText gr_text lines result) → IfSome known (λ text. ReadsBeforeRun text left (map_ok (λ net. (net, ended.at_run)) result))
 ended_before_run None left ended result read ends = tt
 ended_before_run (Some text) left ended (Ok net) read ends =
     let end = ends (before_run (rows text)) read.lines.taken read.lines.count in

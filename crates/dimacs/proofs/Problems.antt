@@ -13,7 +13,7 @@ use Rattle.dimacs.specs.declared.fault.Code.TheVariants.{BadLine, SecondProblemL
 use Rattle.dimacs.specs.Format.{gr}
 use Rattle.dimacs.specs.Numerals.{numeral, kept}
 use Rattle.dimacs.specs.Faults.{Row, is_malformed, is_unreadable, is_under, is_over, problem_of, size_of, is_problem, applies, code_of}
-use Rattle.dimacs.specs.Reading.{two_numerals, counted, problem_of_numerals, problem_after}
+use Rattle.dimacs.specs.Reading.{two_numerals, counted_problem, problem_of_numerals, problem_after}
 use Rattle.dimacs.specs.Content.{arc_of}
 use Rattle.dimacs.specs.Progress.{HasTaken}
 use Rattle.dimacs.specs.Taking.{Takes}
@@ -102,7 +102,7 @@ unfolding code_of applies
 no_kind earlier first counts k = rw k refl
 
 counts_row : (earlier : List Row) (first : List ℕ) (counts : Row) → bytes_eq (codes "sp") first ≡ true
-    → or_code (code_of gr earlier (codes "p" ∷ first ∷ counts)) (problem_from counts) ≡ counted (has_problem earlier) (two_numerals counts)
+    → or_code (code_of gr earlier (codes "p" ∷ first ∷ counts)) (problem_from counts) ≡ counted_problem (has_problem earlier) (two_numerals counts)
 counts_row earlier first counts k =
     elim (two_cases counts) [
       | inl bad ↦ rw (malformed_counts earlier first counts k bad.1, bad.0) refl
@@ -140,7 +140,7 @@ announces has [] p e = absurd (let r = cond_ok has SecondProblemLine (Err WrongK
 announces has (first ∷ counts) p e =
     elim (cases_Bool (bytes_eq (codes "sp") first)) [
       | inl kind ↦
-          let counted_is : counted has (two_numerals counts) ≡ Ok p = rw kind at e in
+          let counted_is : counted_problem has (two_numerals counts) ≡ Ok p = rw kind at e in
           elim (two_cases counts) [
             | inl bad ↦ absurd (let wrong : Err BadLine ≡ Ok p = rw bad.0 at counted_is in cc)
             | inr two ↦

@@ -10,7 +10,7 @@ use Rattle.dimacs.specs.Lines.{is_blank, is_not_empty, fields}
 use Rattle.dimacs.specs.Faults.{Row, is_remark}
 use Rattle.dimacs.specs.Joint.{is_run}
 use Rattle.dimacs.specs.Alike.{SaySame}
-use Rattle.dimacs.specs.Progress.{SameLines, StandsFor, IsCommentFront}
+use Rattle.dimacs.specs.Progress.{SameLines, StandsForFront, IsCommentFront}
 use Rattle.dimacs.specs.Overflow.{EndsInBlank, IsBlankFront}
 use Rattle.dimacs.proofs.Pieces.{fields_blank}
 use Rattle.dimacs.proofs.Alikes.{remark_same_row, same_is, same_row, same_then}
@@ -120,20 +120,20 @@ remark_same mark front more some = remark_begins mark (front ++ more) ∙ begins
 
 -- What is kept.
 
-pub nothing_kept : (mark : ℕ) (kept : List ℕ) → kept ≡ [] → StandsFor mark [] kept
+pub nothing_kept : (mark : ℕ) (kept : List ℕ) → kept ≡ [] → StandsForFront mark [] kept
 nothing_kept mark kept none = rw none (inl (record { some = λ e. e; begun = λ e. e; goes_on = λ more. same_row (fields (strip_last 13 more)) }))
 
 -- the line that a piece ends, of which nothing is kept, or something that is no comment's mark
-pub row_of_piece : (mark : ℕ) (front kept piece : List ℕ) → StandsFor mark front kept → kept ≡ [] → SaySame (fields (strip_last 13 (front ++ piece))) (fields (strip_last 13 piece))
+pub row_of_piece : (mark : ℕ) (front kept piece : List ℕ) → StandsForFront mark front kept → kept ≡ [] → SaySame (fields (strip_last 13 (front ++ piece))) (fields (strip_last 13 piece))
 row_of_piece mark front kept piece (inl same) none = (let goes = same.goes_on piece in rw none at goes)
 row_of_piece mark front kept piece (inr both) none = absurd (let clash : mark ∷ [] ≡ [] = sym both.1 ∙ none in cc)
 
-pub row_of_kept : (mark : ℕ) (front kept piece : List ℕ) → StandsFor mark front kept → (kept ≡ mark ∷ [] → ⊥) → SaySame (fields (strip_last 13 (front ++ piece))) (fields (strip_last 13 (kept ++ piece)))
+pub row_of_kept : (mark : ℕ) (front kept piece : List ℕ) → StandsForFront mark front kept → (kept ≡ mark ∷ [] → ⊥) → SaySame (fields (strip_last 13 (front ++ piece))) (fields (strip_last 13 (kept ++ piece)))
 row_of_kept mark front kept piece (inl same) other = same.goes_on piece
 row_of_kept mark front kept piece (inr both) other = absurd (other both.1)
 
 -- of a comment only its mark is kept
-pub front_of_mark : (mark : ℕ) (front kept : List ℕ) → eqb 13 mark ≡ false → is_blank mark ≡ false → StandsFor mark front kept → kept ≡ mark ∷ [] → IsCommentFront mark front
+pub front_of_mark : (mark : ℕ) (front kept : List ℕ) → eqb 13 mark ≡ false → is_blank mark ≡ false → StandsForFront mark front kept → kept ≡ mark ∷ [] → IsCommentFront mark front
 front_of_mark mark front kept no_return no_blank (inl same) is =
     λ more. remark_same_row mark _ _ (same.goes_on more) ∙ ap (λ (l : List ℕ). is_remark mark (fields (strip_last 13 (l ++ more)))) is ∙ remark_goes_on mark (mark ∷ []) more no_return (mark_remark mark no_blank)
 front_of_mark mark front kept no_return no_blank (inr both) is = both.0
@@ -141,19 +141,19 @@ front_of_mark mark front kept no_return no_blank (inr both) is = both.0
 comment_more : (mark : ℕ) (front piece : List ℕ) → IsCommentFront mark front → IsCommentFront mark (front ++ piece)
 comment_more mark front piece is = λ more. ap (λ (l : List ℕ). is_remark mark (fields (strip_last 13 l))) (append_assoc front piece more) ∙ is (piece ++ more)
 
-pub mark_stays : (mark : ℕ) (front kept piece : List ℕ) → eqb 13 mark ≡ false → is_blank mark ≡ false → StandsFor mark front kept → kept ≡ mark ∷ [] → StandsFor mark (front ++ piece) kept
+pub mark_stays : (mark : ℕ) (front kept piece : List ℕ) → eqb 13 mark ≡ false → is_blank mark ≡ false → StandsForFront mark front kept → kept ≡ mark ∷ [] → StandsForFront mark (front ++ piece) kept
 mark_stays mark front kept piece no_return no_blank stands is = inr (comment_more mark front piece (front_of_mark mark front kept no_return no_blank stands is), is)
 
-pub nothing_more : (mark : ℕ) (front kept piece : List ℕ) → piece ≡ [] → StandsFor mark front kept → StandsFor mark (front ++ piece) kept
+pub nothing_more : (mark : ℕ) (front kept piece : List ℕ) → piece ≡ [] → StandsForFront mark front kept → StandsForFront mark (front ++ piece) kept
 nothing_more mark front kept piece none stands = rw (none, append-nil front) stands
 
 -- a piece that begins a comment
-pub mark_of_piece : (mark : ℕ) (front kept piece new : List ℕ) → eqb 13 mark ≡ false → StandsFor mark front kept → kept ≡ [] → is_remark mark (fields piece) ≡ true → new ≡ mark ∷ [] → StandsFor mark (front ++ piece) new
+pub mark_of_piece : (mark : ℕ) (front kept piece new : List ℕ) → eqb 13 mark ≡ false → StandsForFront mark front kept → kept ≡ [] → is_remark mark (fields piece) ≡ true → new ≡ mark ∷ [] → StandsForFront mark (front ++ piece) new
 mark_of_piece mark front kept piece new no_return stands none is made =
     inr (λ more. ap (λ (l : List ℕ). is_remark mark (fields (strip_last 13 l))) (append_assoc front piece more) ∙ remark_same_row mark _ _ (row_of_piece mark front kept (piece ++ more) stands none) ∙ remark_goes_on mark piece more no_return is, made)
 
 -- what is kept turns out to be a comment
-pub mark_of_kept : (mark : ℕ) (front kept new : List ℕ) → eqb 13 mark ≡ false → StandsFor mark front kept → is_remark mark (fields kept) ≡ true → new ≡ mark ∷ [] → StandsFor mark front new
+pub mark_of_kept : (mark : ℕ) (front kept new : List ℕ) → eqb 13 mark ≡ false → StandsForFront mark front kept → is_remark mark (fields kept) ≡ true → new ≡ mark ∷ [] → StandsForFront mark front new
 mark_of_kept mark front kept new no_return (inl same) is made = inr (λ more. remark_same_row mark _ _ (same.goes_on more) ∙ remark_goes_on mark kept more no_return is, made)
 mark_of_kept mark front kept new no_return (inr both) is made = inr (both.0, made)
 
@@ -162,7 +162,7 @@ grows zero b n h e = omega (arith, e)
 grows (suc a) b n h e = omega (arith, h (omega arith))
 
 -- more is kept
-pub more_kept : (mark : ℕ) (front kept piece new : List ℕ) → StandsFor mark front kept → (kept ≡ mark ∷ [] → ⊥) → new ≡ kept ++ piece → StandsFor mark (front ++ piece) new
+pub more_kept : (mark : ℕ) (front kept piece new : List ℕ) → StandsForFront mark front kept → (kept ≡ mark ∷ [] → ⊥) → new ≡ kept ++ piece → StandsForFront mark (front ++ piece) new
 more_kept mark front kept piece new (inr both) other made = absurd (other both.1)
 more_kept mark front kept piece new (inl same) other made =
     inl (record {
@@ -172,7 +172,7 @@ more_kept mark front kept piece new (inl same) other made =
     })
 
 -- and blanks behind a blank are left out
-pub blanks_not_kept : (mark : ℕ) (front kept piece rest new : List ℕ) → StandsFor mark front kept → (kept ≡ mark ∷ [] → ⊥) → EndsInBlank kept → IsBlankFront piece rest → new ≡ kept ++ rest → StandsFor mark (front ++ piece) new
+pub blanks_not_kept : (mark : ℕ) (front kept piece rest new : List ℕ) → StandsForFront mark front kept → (kept ≡ mark ∷ [] → ⊥) → EndsInBlank kept → IsBlankFront piece rest → new ≡ kept ++ rest → StandsForFront mark (front ++ piece) new
 blanks_not_kept mark front kept piece rest new (inr both) other ends blanks made = absurd (other both.1)
 blanks_not_kept mark front kept piece rest new (inl same) other ends (blanks, is, all) made =
     let some : 0 < length kept = omega (arith, ap length ends.2, length-append ends.0 (ends.1 ∷ [])) in
@@ -189,7 +189,7 @@ blanks_not_kept mark front kept piece rest new (inl same) other ends (blanks, is
     })
 
 -- digits of a numeral are left out
-pub digits_not_kept : (mark : ℕ) (front kept new : List ℕ) → StandsFor mark front kept → is_remark mark (fields kept) ≡ false → is_blank mark ≡ false → SameLines kept new → StandsFor mark front new
+pub digits_not_kept : (mark : ℕ) (front kept new : List ℕ) → StandsForFront mark front kept → is_remark mark (fields kept) ≡ false → is_blank mark ≡ false → SameLines kept new → StandsForFront mark front new
 digits_not_kept mark front kept new (inr both) other no_blank next = absurd (let clash : is_remark mark (fields kept) ≡ true = rw both.1 (mark_remark mark no_blank) in cc)
 digits_not_kept mark front kept new (inl same) other no_blank next =
     inl (record {
@@ -201,37 +201,37 @@ digits_not_kept mark front kept new (inl same) other no_blank next =
 -- The same of a call that may find no memory.
 
 pub on_mark : {X E : Type 0} (r : Result X E) (mark : ℕ) (kept new : List ℕ) → eqb 13 mark ≡ false → is_remark mark (fields kept) ≡ true → OnOk r (new ≡ mark ∷ [])
-    → OnOk r ((front : List ℕ) → StandsFor mark front kept → StandsFor mark front new)
+    → OnOk r ((front : List ℕ) → StandsForFront mark front kept → StandsForFront mark front new)
 on_mark (Ok done) mark kept new no_return is made = λ front stands. mark_of_kept mark front kept new no_return stands is made
 on_mark (Err e) mark kept new no_return is made = tt
 
 pub on_piece : {X E : Type 0} (r : Result X E) (mark : ℕ) (kept piece new : List ℕ) → eqb 13 mark ≡ false → kept ≡ [] → is_remark mark (fields piece) ≡ true → OnOk r (new ≡ mark ∷ [])
-    → OnOk r ((front : List ℕ) → StandsFor mark front kept → StandsFor mark (front ++ piece) new)
+    → OnOk r ((front : List ℕ) → StandsForFront mark front kept → StandsForFront mark (front ++ piece) new)
 on_piece (Ok done) mark kept piece new no_return none is made = λ front stands. mark_of_piece mark front kept piece new no_return stands none is made
 on_piece (Err e) mark kept piece new no_return none is made = tt
 
 pub on_more : {X E : Type 0} (r : Result X E) (mark : ℕ) (kept piece new : List ℕ) → OnOk r (new ≡ kept ++ piece)
-    → OnOk r ((front : List ℕ) → StandsFor mark front kept → (kept ≡ mark ∷ [] → ⊥) → StandsFor mark (front ++ piece) new)
+    → OnOk r ((front : List ℕ) → StandsForFront mark front kept → (kept ≡ mark ∷ [] → ⊥) → StandsForFront mark (front ++ piece) new)
 on_more (Ok done) mark kept piece new made = λ front stands other. more_kept mark front kept piece new stands other made
 on_more (Err e) mark kept piece new made = tt
 
 pub on_blanks : {X E : Type 0} (r : Result X E) (mark : ℕ) (kept piece rest new : List ℕ) → EndsInBlank kept → IsBlankFront piece rest → OnOk r (new ≡ kept ++ rest)
-    → OnOk r ((front : List ℕ) → StandsFor mark front kept → (kept ≡ mark ∷ [] → ⊥) → StandsFor mark (front ++ piece) new)
+    → OnOk r ((front : List ℕ) → StandsForFront mark front kept → (kept ≡ mark ∷ [] → ⊥) → StandsForFront mark (front ++ piece) new)
 on_blanks (Ok done) mark kept piece rest new ends blanks made = λ front stands other. blanks_not_kept mark front kept piece rest new stands other ends blanks made
 on_blanks (Err e) mark kept piece rest new ends blanks made = tt
 
-pub on_look : {X E : Type 0} (r : Result X E) (mark : ℕ) (kept piece mid new : List ℕ) → (kept ≡ mark ∷ [] → ⊥) → ((front : List ℕ) → StandsFor mark front kept → (kept ≡ mark ∷ [] → ⊥) → StandsFor mark (front ++ piece) mid)
-    → OnOk r ((front : List ℕ) → StandsFor mark front mid → StandsFor mark front new) → OnOk r ((front : List ℕ) → StandsFor mark front kept → StandsFor mark (front ++ piece) new)
+pub on_look : {X E : Type 0} (r : Result X E) (mark : ℕ) (kept piece mid new : List ℕ) → (kept ≡ mark ∷ [] → ⊥) → ((front : List ℕ) → StandsForFront mark front kept → (kept ≡ mark ∷ [] → ⊥) → StandsForFront mark (front ++ piece) mid)
+    → OnOk r ((front : List ℕ) → StandsForFront mark front mid → StandsForFront mark front new) → OnOk r ((front : List ℕ) → StandsForFront mark front kept → StandsForFront mark (front ++ piece) new)
 on_look (Ok done) mark kept piece mid new other first next = λ front stands. next (front ++ piece) (first front stands other)
 on_look (Err e) mark kept piece mid new other first next = tt
 
 -- nothing is kept of the empty front alone
-pub stands_empty : (mark : ℕ) (front kept : List ℕ) → StandsFor mark front kept → kept ≡ [] → front ≡ []
+pub stands_empty : (mark : ℕ) (front kept : List ℕ) → StandsForFront mark front kept → kept ≡ [] → front ≡ []
 stands_empty mark [] kept stands none = refl
 stands_empty mark (b ∷ bs) kept (inl same) none = absurd (omega (arith, same.some (omega arith), ap length none))
 stands_empty mark (b ∷ bs) kept (inr both) none = absurd (let clash : mark ∷ [] ≡ [] = sym both.1 ∙ none in cc)
 
-pub stands_some : (mark : ℕ) (front kept : List ℕ) → StandsFor mark front kept → 0 < length kept → 0 < length front
+pub stands_some : (mark : ℕ) (front kept : List ℕ) → StandsForFront mark front kept → 0 < length kept → 0 < length front
 stands_some mark front kept (inl same) some = same.begun some
 stands_some mark [] kept (inr both) some = absurd (let clash : is_remark mark (fields []) ≡ true = both.0 [] in cc)
 stands_some mark (b ∷ bs) kept (inr both) some = omega arith

@@ -17,7 +17,7 @@ use Rattle.std.proofs.lemmas.List.Sums.{AllPass-from_list_all, prefix_len_stops}
 use Rattle.std.proofs.lemmas.List.Splits.{slice_split_none}
 use Rattle.std.proofs.lemmas.Str.{digit_value_digit}
 use Rattle.std.proofs.lemmas.Str.Parse.{digit_from_value}
-use Rattle.dimacs.specs.Alike.{AreAlike, SaySame}
+use Rattle.dimacs.specs.Alike.{AreFieldsAlike, SaySame}
 use Rattle.dimacs.specs.Digits.{is_decimal, are_digits}
 use Rattle.dimacs.specs.Lines.{is_blank, is_not_empty, fields}
 use Rattle.dimacs.specs.Faults.{Row, is_empty}
@@ -141,7 +141,7 @@ module _ (z : ℕ) (ds : List ℕ) (all : list_all is_decimal ds ≡ true) (many
       ne_eqb x 45 (λ e. absurd (omega (arith, e, range)))
 
   -- a field that begins with these digits, perhaps behind a minus, is like the one that begins with the short ones
-  pub short_alike : (sign tail : List ℕ) → (sign ≡ []) ⊎ (sign ≡ 45 ∷ []) → AreAlike ((sign ++ ds) ++ tail) ((sign ++ take 21 (drop z ds)) ++ tail)
+  pub short_alike : (sign tail : List ℕ) → (sign ≡ []) ⊎ (sign ≡ 45 ∷ []) → AreFieldsAlike ((sign ++ ds) ++ tail) ((sign ++ take 21 (drop z ds)) ++ tail)
   short_alike sign tail (inl none) =
       rw none (inr (
         omega (arith, many, length-append ds tail),

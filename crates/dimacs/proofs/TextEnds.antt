@@ -10,7 +10,7 @@ use Rattle.dimacs.specs.Faults.{Row, Judge, first_fault, fault_at, fault_of}
 use Rattle.dimacs.specs.Taking.{ByCode}
 use Rattle.dimacs.specs.Counts.{CountsFailures, one_more_failed}
 use Rattle.dimacs.specs.Ends.{HasTakenSome, ReadsLines}
-use Rattle.dimacs.specs.Texts.{TextKind, unless_fault, content_by, IsSaid, Source, InMemory, OfReader, FailsFrom, RunsOutFrom, GivesLines, Reads, Ends, map_ok}
+use Rattle.dimacs.specs.Texts.{TextKind, unless_fault, content_by, IsSaid, Source, InMemory, OfReader, FailsFrom, RunsOutFrom, GivesLines, ReadsText, EndsText, map_ok}
 use Rattle.dimacs.proofs.Items.{by_code_of}
 use Rattle.dimacs.proofs.Far.{some_row}
 
@@ -84,12 +84,12 @@ module _ {X S : Type 0} (kind : TextKind X) (has_taken : List Row → S → Type
   pub content_fault : (rs : List Row) (fault : Fault) → first_fault kind.judge [] rs ≡ Some fault → content_by kind rs ≡ Err fault
   content_fault rs fault e = rw e refl
 
-  pub read_told : (known : Option (List ℕ)) (source : Source) (fault : Fault) → IfSome known (λ text. GivesLines kind.judge has_taken text source (Err fault)) → IfSome known (λ text. Reads kind text source (Err fault))
+  pub read_told : (known : Option (List ℕ)) (source : Source) (fault : Fault) → IfSome known (λ text. GivesLines kind.judge has_taken text source (Err fault)) → IfSome known (λ text. ReadsText kind text source (Err fault))
   read_told None source fault given = tt
   read_told (Some text) source fault given = same_code (FailsFrom kind.judge text source fault.line) (RunsOutFrom kind.judge text source fault.line) fault.code given (content_fault (rows text) fault)
 
   pub read_ended : (known : Option (List ℕ)) (source : Source) (ended : Ended S) (result : Result X Fault) → IfSome known (λ text. GivesLines kind.judge has_taken text source (Ok ended))
-      → ((lines : List Row) → has_taken lines ended.taker → ended.lines ≡ length lines → Ends kind lines result) → IfSome known (λ text. Reads kind text source result)
+      → ((lines : List Row) → has_taken lines ended.taker → ended.lines ≡ length lines → EndsText kind lines result) → IfSome known (λ text. ReadsText kind text source result)
   read_ended None source ended result given ends = tt
   read_ended (Some text) source ended (Ok x) given ends =
       let end = ends (rows text) given.0.taken given.0.count in
@@ -99,7 +99,7 @@ module _ {X S : Type 0} (kind : TextKind X) (has_taken : List Row → S → Type
       by_code_of (FailsFrom kind.judge text source fault.line) fault.code end.0 (λ e. content_ends (rows text) fault given.0.clean e end.1) (λ none. absurd none)
 
   pub said_by_lines : {Y : Type 0} (value : Y → X) (ended : Ended S) (result : Result Y Fault) → HasTakenSome kind.judge has_taken ended
-      → ((lines : List Row) → has_taken lines ended.taker → ended.lines ≡ length lines → Ends kind lines (map_ok value result)) → IfOk result (λ y. IsSaid kind (value y))
+      → ((lines : List Row) → has_taken lines ended.taker → ended.lines ≡ length lines → EndsText kind lines (map_ok value result)) → IfOk result (λ y. IsSaid kind (value y))
   said_by_lines value ended (Err fault) some ends = tt
   said_by_lines value ended (Ok y) some ends =
       let end = ends some.0 some.1.taken some.1.count in
@@ -121,10 +121,10 @@ module _ {X Y : Type 0} (f : X → Y) (kind : TextKind X) where
   content_of_said : (rs : List Row) (fault : Fault) → content_by kind rs ≡ Err fault → content_by said_of rs ≡ Err fault
   content_of_said rs fault e = err_of f (fault_of kind.judge kind.end rs) (kind.says rs) fault e
 
-  pub reads_ok : (known : Option (List ℕ)) (source : Source) (x : X) → IfSome known (λ text. Reads kind text source (Ok x)) → IfSome known (λ text. Reads said_of text source (Ok (f x)))
+  pub reads_ok : (known : Option (List ℕ)) (source : Source) (x : X) → IfSome known (λ text. ReadsText kind text source (Ok x)) → IfSome known (λ text. ReadsText said_of text source (Ok (f x)))
   reads_ok None source x read = tt
   reads_ok (Some text) source x read = (ok_of f (fault_of kind.judge kind.end (rows text)) (kind.says (rows text)) x read.0, read.1)
 
-  pub reads_err : (known : Option (List ℕ)) (source : Source) (fault : Fault) → IfSome known (λ text. Reads kind text source (Err fault)) → IfSome known (λ text. Reads said_of text source (Err fault))
+  pub reads_err : (known : Option (List ℕ)) (source : Source) (fault : Fault) → IfSome known (λ text. ReadsText kind text source (Err fault)) → IfSome known (λ text. ReadsText said_of text source (Err fault))
   reads_err None source fault read = tt
   reads_err (Some text) source fault read = same_code (FailsFrom kind.judge text source fault.line) (RunsOutFrom kind.judge text source fault.line) fault.code read (content_of_said (rows text) fault)

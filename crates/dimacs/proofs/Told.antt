@@ -7,7 +7,7 @@ use Rattle.dimacs.specs.Lines.{is_blank, fields}
 use Rattle.dimacs.specs.Faults.{Row, Judge, is_remark}
 use Rattle.dimacs.specs.Joint.{is_run}
 use Rattle.dimacs.specs.Taking.{Takes, ByMemory}
-use Rattle.dimacs.specs.Progress.{StandsFor}
+use Rattle.dimacs.specs.Progress.{StandsForFront}
 use Rattle.dimacs.specs.Overflow.{overflows, OverflowsBehind, Overflowing, IsFaultOfFront}
 use Rattle.dimacs.specs.Alike.{SaySame}
 use Rattle.dimacs.proofs.Alikes.{run_same_row}
@@ -43,7 +43,7 @@ module _ {S : Type 0} (judge : Judge) (has_taken : List Row → S → Type 0) (m
   front_behind kept over = let none = over.1 [] in rw (append-nil (strip_last 13 kept)) at none
 
   -- the code with which the front is refused as a line is that of each line that begins with it
-  pub front_told : (earlier : List Row) (front kept : List ℕ) (code : Code) → StandsFor mark front kept → is_remark mark (fields kept) ≡ false → Overflowing (strip_last 13 kept)
+  pub front_told : (earlier : List Row) (front kept : List ℕ) (code : Code) → StandsForFront mark front kept → is_remark mark (fields kept) ≡ false → Overflowing (strip_last 13 kept)
       → judge earlier (fields (strip_last 13 kept)) ≡ Some code → IsFaultOfFront judge earlier front code
   front_told earlier front kept code (inr both) other over told = absurd (let clash : is_remark mark (fields kept) ≡ true = rw both.1 (mark_remark mark no_blank) in cc)
   front_told earlier front kept code (inl same) other over told = λ more.
@@ -57,7 +57,7 @@ module _ {S : Type 0} (judge : Judge) (has_taken : List Row → S → Type 0) (m
       (judged earlier _ _ whole ∙ code_behind earlier over.0 _ here goes ∙ code_is, run_same_row _ _ whole ∙ run_behind over.0 _ here)
 
   -- the same of what taking the front as a line answers
-  pub told_early : (earlier : List Row) (front kept : List ℕ) (code : Code) → StandsFor mark front kept → is_remark mark (fields kept) ≡ false → Overflowing (strip_last 13 kept)
+  pub told_early : (earlier : List Row) (front kept : List ℕ) (code : Code) → StandsForFront mark front kept → is_remark mark (fields kept) ≡ false → Overflowing (strip_last 13 kept)
       → ByMemory code (judge earlier (fields (strip_last 13 kept)) ≡ Some code) (judge earlier (fields (strip_last 13 kept)) ≡ None) → ByMemory code (IsFaultOfFront judge earlier front code) ⊤
   told_early earlier front kept code stands other over refused = by_memory_of code refused (λ told. front_told earlier front kept code stands other over told) (λ none. tt)
 

@@ -5,7 +5,7 @@ use Rattle.dimacs.specs.declared.fault.Fault.{Fault}
 use Rattle.dimacs.specs.declared.lines.feed.Ended.{Ended}
 use Rattle.dimacs.specs.Lines.{is_line_feed, rows}
 use Rattle.dimacs.specs.Faults.{Row, Judge, first_fault}
-use Rattle.dimacs.specs.Joint.{has_run, taken_of, left_of}
+use Rattle.dimacs.specs.Joint.{has_run, taken_of, lines_left}
 use Rattle.dimacs.specs.Taking.{ByCode}
 
 -- these lines were taken, in none of which there is a fault
@@ -49,7 +49,7 @@ HasLeft lines (Some rest) = rows rest ≡ lines
 pub record ReadAll {S : Type 0} (judge : Judge) (has_taken : List Row → S → Type 0) (until_run : Bool) (text : List ℕ) (left : Option (List ℕ)) (ended : Ended S) : Type 0 where
   pub lines : TakenAll judge has_taken (taken_of until_run (rows text)) ended
   pub at_run : ended.at_run ≡ (until_run && has_run (rows text))
-  pub rest : HasLeft (left_of until_run (rows text)) left
+  pub rest : HasLeft (lines_left until_run (rows text)) left
 
 -- the same of a reader that has this text left and may fail; and memory may run out in a line that has a fault, before its bytes are
 -- at hand

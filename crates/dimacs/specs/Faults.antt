@@ -102,8 +102,8 @@ announced f rows = option_map_or (λ row. map size_of (count_fields f row)) (pro
 abbrev pub announced_items : Format → List Row → ℕ
 announced_items f rows = unwrap_or (last_or None (announced f rows)) 0
 
-abbrev pub nodes_of : Format → List Row → ℕ
-nodes_of f rows = unwrap_or f.nodes (slice_index (announced f rows) 0)
+abbrev pub announced_nodes_of : Format → List Row → ℕ
+announced_nodes_of f rows = unwrap_or f.nodes (slice_index (announced f rows) 0)
 
 abbrev pub items_of : Format → List Row → ℕ
 items_of f rows = count_by (is_item f) rows
@@ -119,7 +119,7 @@ applies f earlier row WrongKind = is_problem row && not (has_kind f row)
 applies f earlier row NumberRange = (is_item f row && some_numeral is_unreadable (item_fields row))
     || (has_kind f row && some_numeral is_unreadable (count_fields f row))
     || (has_kind f row && some_at (λ range. is_under range.least) f.counts (count_fields f row))
-applies f earlier row NodeRange = is_item f row && some_at (is_no_node (nodes_of f earlier)) f.numbers (item_fields row)
+applies f earlier row NodeRange = is_item f row && some_at (is_no_node (announced_nodes_of f earlier)) f.numbers (item_fields row)
 applies f earlier row LengthRange = is_item f row && some_at is_no_length f.numbers (item_fields row)
 applies f earlier row LineCount = is_item f row && nat_le (announced_items f earlier) (items_of f earlier)
 applies f earlier row TooLarge = has_kind f row && some_at (λ range. is_over range.most) f.counts (count_fields f row)

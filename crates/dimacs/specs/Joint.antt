@@ -25,5 +25,5 @@ has_run rs = list_any is_run rs
 abbrev pub taken_of : Bool → List Row → List Row
 taken_of until_run rs = if until_run then before_run rs else rs
 
-abbrev pub left_of : Bool → List Row → List Row
-left_of until_run rs = if until_run then after_run rs else []
+abbrev pub lines_left : Bool → List Row → List Row
+lines_left until_run rs = if until_run then after_run rs else []

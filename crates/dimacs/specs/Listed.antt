@@ -44,13 +44,13 @@ ReadsItem f says numbers None = (earlier : List Row) → code_of f earlier (item
 ReadsItem f says numbers (Some (Ok item)) = (says numbers ≡ item) × ((earlier : List Row) → code_of f earlier (item_line f numbers) ≡ code_after f earlier None)
 ReadsItem f says numbers (Some (Err code)) = (earlier : List Row) → code_of f earlier (item_line f numbers) ≡ code_after f earlier (Some code)
 
-abbrev pub counts_of : Option ℕ → List ℕ
-counts_of None = []
-counts_of (Some count) = count ∷ []
+abbrev pub listed_counts : Option ℕ → List ℕ
+listed_counts None = []
+listed_counts (Some count) = count ∷ []
 
 -- these lines were taken, and there is no fault in them
 pub record HasItems {X : Type 0} (f : Format) (says : Row → X) (earlier : List Row) (nodes : ℕ) (count : Option ℕ) (items : List X) : Type 0 where
   pub told : f.nodes ≡ Some nodes
   pub problem : is_none (problem_of earlier) ≡ is_none count
-  pub counts : announced f earlier ≡ counts_of count
+  pub counts : announced f earlier ≡ listed_counts count
   pub said : items_in f says earlier ≡ items

@@ -31,9 +31,9 @@ abbrev pub Overflowing : List ℕ → Type 0
 Overflowing front = (before : Row) × ((more : List ℕ) → OverflowsBehind before (fields (front ++ more)))
 
 -- the fields of a line that begins with a front, whose first field may go on where nothing follows it
-abbrev pub GoesOn : List ℕ → List ℕ → List ℕ → List ℕ → Type 0
-GoesOn front first [] more = (tail : List ℕ) × (others : Row) × (fields (front ++ more) ≡ (first ++ tail) ∷ others)
-GoesOn front first (b ∷ rest) more = fields (front ++ more) ≡ first ∷ fields ((b ∷ rest) ++ more)
+abbrev pub LineGoesOn : List ℕ → List ℕ → List ℕ → List ℕ → Type 0
+LineGoesOn front first [] more = (tail : List ℕ) × (others : Row) × (fields (front ++ more) ≡ (first ++ tail) ∷ others)
+LineGoesOn front first (b ∷ rest) more = fields (front ++ more) ≡ first ∷ fields ((b ∷ rest) ++ more)
 
 -- whatever stands before, the line has this code
 abbrev pub bad_line : List Row → Row → Code

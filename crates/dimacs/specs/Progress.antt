@@ -16,21 +16,21 @@ use Rattle.dimacs.specs.Alike.{SaySame}
 use Rattle.dimacs.specs.Taking.{ByMemory}
 use Rattle.roadnet.specs.Net.{Net}
 
-abbrev pub counts_of : Option Problem → List ℕ
-counts_of None = []
-counts_of (Some p) = p.nodes ∷ p.items ∷ []
+abbrev pub problem_counts : Option Problem → List ℕ
+problem_counts None = []
+problem_counts (Some p) = p.nodes ∷ p.items ∷ []
 
 -- these lines of a `.gr` text were taken, and there is no fault in them
 pub record HasTaken (earlier : List Row) (r : GrLines) : Type 0 where
   pub problem : is_none (problem_of earlier) ≡ is_none r.problem
-  pub counts : announced gr earlier ≡ counts_of r.problem
+  pub counts : announced gr earlier ≡ problem_counts r.problem
   pub items : items_of gr earlier ≡ length r.arcs.items
   pub arcs : filter_map arc_of earlier ≡ r.arcs.items
 
 -- all lines are taken, and the end is no fault, or its code is told: at the end no memory is wanted
-abbrev pub Ends : List Row → Result Net Code → Type 0
-Ends lines (Ok net) = (end_code gr lines ≡ None) × (net ≡ network_of lines)
-Ends lines (Err code) = ByMemory code (end_code gr lines ≡ Some code) ⊥
+abbrev pub EndsNetwork : List Row → Result Net Code → Type 0
+EndsNetwork lines (Ok net) = (end_code gr lines ≡ None) × (net ≡ network_of lines)
+EndsNetwork lines (Err code) = ByMemory code (end_code gr lines ≡ Some code) ⊥
 
 -- lines that begin with a front say the same as those that begin with what is kept of it, and something is kept of a line that has begun
 pub record SameLines (front kept : List ℕ) : Type 0 where
@@ -43,8 +43,8 @@ abbrev pub IsCommentFront : ℕ → List ℕ → Type 0
 IsCommentFront mark front = (more : List ℕ) → is_remark mark (fields (strip_last 13 (front ++ more))) ≡ true
 
 -- what is kept of the front of a line: as much as says the same, or of a comment only its mark
-abbrev pub StandsFor : ℕ → List ℕ → List ℕ → Type 0
-StandsFor mark front kept = SameLines front kept ⊎ (IsCommentFront mark front × (kept ≡ mark ∷ []))
+abbrev pub StandsForFront : ℕ → List ℕ → List ℕ → Type 0
+StandsForFront mark front kept = SameLines front kept ⊎ (IsCommentFront mark front × (kept ≡ mark ∷ []))
 
 -- a line is taken, or it is the line `run` at which to stop, or it has a fault, or memory ran out
 abbrev pub TakesOrRuns : {S : Type 0} → Judge → (List Row → S → Type 0) → Bool → List Row → Row → S → Result Bool Code → Type 0
@@ -59,7 +59,7 @@ pub record Within {S : Type 0} (judge : Judge) (has_taken : List Row → S → T
   pub before : List ℕ
   pub lines : rows text ≡ earlier ++ rows (front ++ left)
   pub in_line : All (λ b. b ≢ 10) front
-  pub kept : StandsFor mark front feed.kept.bytes.items
+  pub kept : StandsForFront mark front feed.kept.bytes.items
   pub count : length earlier ≡ feed.lines
   pub clean : first_fault judge [] earlier ≡ None
   pub no_run : feed.until_run ≡ true → has_run earlier ≡ false

@@ -52,12 +52,12 @@ problem_of_numerals nodes items =
     else (if is_over most_nodes nodes || is_over most_arcs items then Err TooLarge
     else Ok (record { nodes = nodes.size; items = items.size })))
 
-abbrev pub counted : Bool → Option (Numeral × Numeral) → Result Problem Code
-counted has_problem None = Err BadLine
-counted has_problem (Some counts) = if has_problem then Err SecondProblemLine else problem_of_numerals counts.0 counts.1
+abbrev pub counted_problem : Bool → Option (Numeral × Numeral) → Result Problem Code
+counted_problem has_problem None = Err BadLine
+counted_problem has_problem (Some counts) = if has_problem then Err SecondProblemLine else problem_of_numerals counts.0 counts.1
 
 -- what a problem line announces, by the fields after `p`
 abbrev pub problem_after : Bool → Row → Result Problem Code
 problem_after has_problem words =
-    if starts_with bytes_eq words (codes "sp" ∷ []) then counted has_problem (two_numerals (drop 1 words))
+    if starts_with bytes_eq words (codes "sp" ∷ []) then counted_problem has_problem (two_numerals (drop 1 words))
     else (if has_problem then Err SecondProblemLine else Err WrongKind)

@@ -65,14 +65,14 @@ abbrev pub FaultOf : {X : Type 0} → TextKind X → List ℕ → Source → Fau
 FaultOf kind text source fault = ByCode fault.code (content_by kind (rows text) ≡ Err fault) (FailsFrom kind.judge text source fault.line) (RunsOutFrom kind.judge text source fault.line)
 
 -- the content of the text, all of which is read, or its fault
-abbrev pub Reads : {X : Type 0} → TextKind X → List ℕ → Source → Result X Fault → Type 0
-Reads kind text source (Ok x) = (content_by kind (rows text) ≡ Ok x) × IsReadUp source
-Reads kind text source (Err fault) = FaultOf kind text source fault
+abbrev pub ReadsText : {X : Type 0} → TextKind X → List ℕ → Source → Result X Fault → Type 0
+ReadsText kind text source (Ok x) = (content_by kind (rows text) ≡ Ok x) × IsReadUp source
+ReadsText kind text source (Err fault) = FaultOf kind text source fault
 
 -- the end of lines without a fault: what they say, or the code of the end, which names the last line
-abbrev pub Ends : {X : Type 0} → TextKind X → List Row → Result X Fault → Type 0
-Ends kind lines (Ok x) = (kind.end lines ≡ None) × (x ≡ kind.says lines)
-Ends kind lines (Err fault) = ByMemory fault.code (kind.end lines ≡ Some fault.code) ⊥ × (fault.line ≡ length lines)
+abbrev pub EndsText : {X : Type 0} → TextKind X → List Row → Result X Fault → Type 0
+EndsText kind lines (Ok x) = (kind.end lines ≡ None) × (x ≡ kind.says lines)
+EndsText kind lines (Err fault) = ByMemory fault.code (kind.end lines ≡ Some fault.code) ⊥ × (fault.line ≡ length lines)
 
 -- an answer, with f of its value
 abbrev pub map_ok : {X Y : Type 0} → (X → Y) → Result X Fault → Result Y Fault

@@ -40,9 +40,9 @@ Turns judge has_taken mark known left feed (Took part) = MatchBool part.at_run (
 Turns judge has_taken mark known left feed (Refused code) = StopsFrom judge known feed code
 
 -- the lines can be counted on, and fewer calls are left
-abbrev pub HasRoom : {S : Type 0} → Feed S → Feed S → Turn → Type 0
-HasRoom old new (Took part) = (new.lines + new.left < 2 ^ 64 - 1) × (new.left < old.left)
-HasRoom old new other = new.lines + 1 < 2 ^ 64
+abbrev pub HasRoomForLines : {S : Type 0} → Feed S → Feed S → Turn → Type 0
+HasRoomForLines old new (Took part) = (new.lines + new.left < 2 ^ 64 - 1) × (new.left < old.left)
+HasRoomForLines old new other = new.lines + 1 < 2 ^ 64
 
 -- only a failed call is told as one
 abbrev pub IsNoRead : Turn → Type 0

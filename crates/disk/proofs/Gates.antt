@@ -3,7 +3,7 @@ use Rattle.std.proofs.Common.{◌≡◌, ◌⊎◌, inl, inr, ⊎_elim, ℕ, ◌
 use Rattle.std.proofs.lemmas.Bool.{cases_eq, cases_order}
 use Rattle.std.proofs.lemmas.List.{ext_get_or}
 use Rattle.disk.specs.Contents.{overwritten, Torn}
-use Rattle.disk.specs.Gated.{IsOpen, SameOutside, IsShut, IsOldOrShut, IsShutOrOpened}
+use Rattle.disk.specs.Gated.{IsGateOpen, SameOutside, IsShut, IsOldOrShut, IsShutOrOpened}
 use Rattle.disk.proofs.Overwritten.{overwritten_inside, overwritten_torn}
 
 -- a torn write changes its range alone
@@ -33,7 +33,7 @@ pub shut_wider : (at n wide_at wide gate : ℕ) (old c : List ℕ) → wide_at �
 shut_wider at n wide_at wide gate old c from to shut = record { outside = outside_wider at n wide_at wide old c from to shut.outside; closed = shut.closed }
 
 -- contents that are the same but for the gate, and both have it open, are one
-one_open : (gate : ℕ) (old c : List ℕ) → SameOutside gate 1 old c → IsOpen gate old → IsOpen gate c → c ≡ old
+one_open : (gate : ℕ) (old c : List ℕ) → SameOutside gate 1 old c → IsGateOpen gate old → IsGateOpen gate c → c ≡ old
 one_open gate old c outside was_open is_open = ext_get_or 0 c old outside.same_length (λ i lt. ⊎_elim
     (λ here. ap (λ (k : ℕ). get_or c k 0) here ∙ is_open ∙ sym was_open ∙ ap (λ (k : ℕ). get_or old k 0) (sym here))
     (λ other. ⊎_elim (λ below. outside.below i below) (λ above. outside.above i (omega arith)) other)
@@ -56,7 +56,7 @@ module _ (gate : ℕ) (old : List ℕ) (within : gate < length old) where
       ap (λ (k : ℕ). get_or (overwritten old gate (byte ∷ [])) k 0) same_place ∙ overwritten_inside old (byte ∷ []) gate place 0 (omega arith)
 
   -- an open gate that is torn
-  pub close_torn : (c : List ℕ) → IsOpen gate old → Torn gate 1 old c → IsOldOrShut old gate c
+  pub close_torn : (c : List ℕ) → IsGateOpen gate old → Torn gate 1 old c → IsOldOrShut old gate c
   close_torn c was_open torn = elim (cases_eq (get_or c gate 0) 165) [
     | inl is_open ↦ inr (one_open gate old c (gate_outside c torn) was_open is_open)
     | inr is_shut ↦ inl (record { outside = gate_outside c torn; closed = is_shut })
@@ -70,7 +70,7 @@ module _ (gate : ℕ) (old : List ℕ) (within : gate < length old) where
   })
 
   -- a gate that reads closed stays as it is
-  pub shut_already : (c : List ℕ) → c ≡ old → (IsOpen gate old → ⊥) → IsShut gate 1 gate old c
+  pub shut_already : (c : List ℕ) → c ≡ old → (IsGateOpen gate old → ⊥) → IsShut gate 1 gate old c
   shut_already c is closed = subst (λ (d : List ℕ). IsShut gate 1 gate old d) (sym is) (record {
     outside = record { same_length = refl; below = λ i lt. refl; above = λ i ge. refl };
     closed = closed;

@@ -10,7 +10,7 @@ pub record Counts {D T E : Type 0} (disk : Ghosts D) (result : Result T E) (old 
   pub honest : disk.honest new ↔ disk.honest old
 
 -- The call reads alone: over an honest disk the content stays, and a stop may leave nothing that it might not have left before.
-pub record Reads {D T E : Type 0} (disk : Ghosts D) (result : Result T E) (old new : D) : Type 0 where
+pub record ReadsDisk {D T E : Type 0} (disk : Ghosts D) (result : Result T E) (old new : D) : Type 0 where
   pub same : disk.honest old → StaysSame disk.content disk.left disk.moment disk.left_since old new
   pub counted : disk.failures new ≡ failures_after result (disk.failures old)
   pub honest : disk.honest new ↔ disk.honest old
@@ -22,7 +22,7 @@ pub record WritesUnsynced {D T E : Type 0} (disk : Ghosts D) (P : List ℕ → T
   pub honest : disk.honest new ↔ disk.honest old
 
 -- The same with a sync behind its last write: after Ok a stop leaves the content alone.
-pub record Writes {D T E : Type 0} (disk : Ghosts D) (P : List ℕ → Type 0) (result : Result T E) (old new : D) : Type 0 where
+pub record WritesDisk {D T E : Type 0} (disk : Ghosts D) (P : List ℕ → Type 0) (result : Result T E) (old new : D) : Type 0 where
   pub any_moment : disk.honest old → LeavesOnly disk.moment disk.left_since old new P
   pub at_rest : disk.honest old → OnOk result (Only (disk.content new) (disk.left new))
   pub counted : disk.failures new ≡ failures_after result (disk.failures old)

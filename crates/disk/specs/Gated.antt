@@ -7,8 +7,8 @@ abbrev pub open_byte : ℕ
 open_byte = 165
 
 -- the gate at this place is open in this content
-abbrev pub IsOpen : ℕ → List ℕ → Type 0
-IsOpen gate c = slice_index c gate ≡ open_byte
+abbrev pub IsGateOpen : ℕ → List ℕ → Type 0
+IsGateOpen gate c = slice_index c gate ≡ open_byte
 
 -- c is old outside the bytes from this offset on
 pub record SameOutside (at count : ℕ) (old c : List ℕ) : Type 0 where
@@ -19,7 +19,7 @@ pub record SameOutside (at count : ℕ) (old c : List ℕ) : Type 0 where
 -- c is old outside these bytes, and the gate is closed in it
 pub record IsShut (at count gate : ℕ) (old c : List ℕ) : Type 0 where
   pub outside : SameOutside at count old c
-  pub closed : IsOpen gate c → ⊥
+  pub closed : IsGateOpen gate c → ⊥
 
 -- What a stop leaves of a gate that is closed: the content as it was, or with that gate closed.
 abbrev pub IsOldOrShut : List ℕ → ℕ → List ℕ → Type 0

@@ -48,7 +48,7 @@ pub record IsSynced (old new : MemDisk) : Type 0 where
   pub unsynced : (i : ℕ) → is_unsynced_in new i ≡ false
 
 -- a growth was refused, and nothing changed but the count of such refusals
-pub record IsRefused (old new : MemDisk) : Type 0 where
+pub record IsGrowthRefused (old new : MemDisk) : Type 0 where
   pub same : IsSame old new
   pub refused : Rose (refusals_of old) (refusals_of new)
 
@@ -63,10 +63,10 @@ pub record MemReads (old : MemDisk) (ok : Bool) (new : MemDisk) : Type 0 where
 pub record MemWrites (at : ℕ) (bytes : List ℕ) (old : MemDisk) (ok : Bool) (new : MemDisk) : Type 0 where
   pub armed : armed_of new ≡ nearer (armed_of old)
   pub told : ok ≡ true → IsWritten at bytes old new
-  pub made : armed_of old ≢ Some 0 → IsWritten at bytes old new ⊎ IsRefused old new
+  pub made : armed_of old ≢ Some 0 → IsWritten at bytes old new ⊎ IsGrowthRefused old new
   pub late : armed_of old ≡ Some 0 → IsSame old new
   pub cut : armed_of new ≡ Some 0 → ok ≡ false
-  pub cause : ok ≡ false → (armed_of new ≡ Some 0) ⊎ IsRefused old new
+  pub cause : ok ≡ false → (armed_of new ≡ Some 0) ⊎ IsGrowthRefused old new
 
 -- A sync. It fails for want of memory, and from the armed call on. One that fails isn't made.
 pub record MemSyncs (old : MemDisk) (ok : Bool) (new : MemDisk) : Type 0 where
@@ -74,7 +74,7 @@ pub record MemSyncs (old : MemDisk) (ok : Bool) (new : MemDisk) : Type 0 where
   pub told : ok ≡ true → IsSynced old new
   pub failed : ok ≡ false → IsSame old new
   pub cut : armed_of new ≡ Some 0 → ok ≡ false
-  pub cause : ok ≡ false → (armed_of new ≡ Some 0) ⊎ IsRefused old new
+  pub cause : ok ≡ false → (armed_of new ≡ Some 0) ⊎ IsGrowthRefused old new
 
 abbrev pub MemTakes : MemDisk → DiskCall → Bool → MemDisk → Type 0
 MemTakes old Len ok new = MemReads old ok new

@@ -8,7 +8,7 @@ use Rattle.dimacs.specs.declared.fault.Code.TheVariants.{Read}
 use Rattle.printing.specs.declared.failed.Failed.{Failed}
 use Rattle.printing.specs.declared.failed.Failed.TheVariants.{Text, Code}
 use Rattle.words.specs.declared.pipes.PipePair.{PipePair}
-use Rattle.words.specs.Pipes.{named}
+use Rattle.words.specs.Pipes.{pipe_named}
 use Rattle.words.specs.declared.words.PairTexts.{PairTexts}
 use Rattle.words.specs.declared.words.PairTexts.TheVariants.{Listed, Table}
 use Rattle.words.specs.declared.words.Job.{Job}
@@ -31,7 +31,7 @@ is_of_third (Code refusal) = false
 
 -- the name of the pipe of which a failure is, 3 and on, or that of the store
 abbrev pub pipe_name : List ℕ → List PipePair → Failed → List ℕ
-pipe_name store pairs (Text which fault) = named store pairs which
+pipe_name store pairs (Text which fault) = pipe_named store pairs which
 pipe_name store pairs (Code refusal) = store
 
 -- the name of the folder of copies, if there is one
@@ -113,12 +113,12 @@ abbrev pub unopened : ℕ → Failed
 unopened which = Text which (record { line = 0; code = Read })
 
 -- a text's file is not read: it can't be opened, or memory ran out
-abbrev pub IsUnopened : ℕ → Failed → Type 0
-IsUnopened which failed = (failed ≡ unopened which) ⊎ (failed ≡ Code OutOfMemory)
+abbrev pub IsFileUnopened : ℕ → Failed → Type 0
+IsFileUnopened which failed = (failed ≡ unopened which) ⊎ (failed ≡ Code OutOfMemory)
 
 -- the second text's file is not read, or the first text has a fault
 abbrev pub IsFaultOrUnopened : Failed → Type 0
-IsFaultOrUnopened failed = (is_of_first failed ≡ true) ⊎ IsUnopened 1 failed
+IsFaultOrUnopened failed = (is_of_first failed ≡ true) ⊎ IsFileUnopened 1 failed
 
 -- the failure is one of this text
 abbrev pub IsFaultOf : ℕ → Failed → Type 0
@@ -127,7 +127,7 @@ IsFaultOf which (Code refusal) = ⊥
 
 -- the third text's file is not read, or one of the first two has a fault or is not read
 abbrev pub IsTableUnread : Failed → Type 0
-IsTableUnread failed = IsFaultOrUnopened failed ⊎ (IsFaultOf 1 failed ⊎ IsUnopened 2 failed)
+IsTableUnread failed = IsFaultOrUnopened failed ⊎ (IsFaultOf 1 failed ⊎ IsFileUnopened 2 failed)
 
 -- what is told of a store in this file, and of a text that is not read: that failure where the store opens, else a refusal of the store
 abbrev pub IsToldAfterOpening : List ℕ → Failed → Failed → Type 0
@@ -145,7 +145,7 @@ IsFileUnmade failed = (failed ≡ unopened 2) ⊎ ((failed ≡ Code Device) ⊎ 
 
 -- there is no new file for a text: one of its name is there, it can't be made in the folder, or memory ran out
 abbrev pub IsTextUnmade : Failed → Type 0
-IsTextUnmade failed = (failed ≡ Code NotEmpty) ⊎ IsUnopened 1 failed
+IsTextUnmade failed = (failed ≡ Code NotEmpty) ⊎ IsFileUnopened 1 failed
 
 -- the texts of a network are not written out: one has no new file, or one could not be written or made durable
 abbrev pub IsTextUnwritten : Failed → Type 0

@@ -104,14 +104,14 @@ impl<S: Read> Read for CommandLines<S> {
 
 /// The commands that were refused, by their places, in order.
 #[derive(Drop)]
-pub struct Refused {
+pub struct RefusedLines {
     commands: RefCell<Vec<(usize, Refusal)>>,
 }
 
-impl Refused {
+impl RefusedLines {
     /// None yet.
-    pub fn new(alloc: Global) -> Refused {
-        Refused {
+    pub fn new(alloc: Global) -> RefusedLines {
+        RefusedLines {
             commands: RefCell::new(Vec::new(alloc)),
         }
     }
@@ -130,7 +130,7 @@ impl Refused {
     }
 }
 
-impl HearsRefusals for Refused {
+impl HearsRefusals for RefusedLines {
     fn refused(&self, place: usize, refusal: Refusal) {
         if let Ok(mut commands) = self.commands.try_borrow_mut() {
             let _ = commands.push((place, refusal));

@@ -1,7 +1,7 @@
 //! The files of the program's jobs.
 ghost use Rattle.std.specs.Prelude.{◌≡◌, ◌⊎◌, true, [], IfOk, IfErr};
 ghost use Rattle.std.specs.Io.Buffered.{reader_inner, reader_buffer, writer_inner, writer_buffer};
-ghost use Rattle.file_jobs.specs.Failures.{unopened, is_of_first, IsFaultOf, IsUnopened, IsFaultOrUnopened, IsTableUnread, IsFileUnmade};
+ghost use Rattle.file_jobs.specs.Failures.{unopened, is_of_first, IsFaultOf, IsFileUnopened, IsFaultOrUnopened, IsTableUnread, IsFileUnmade};
 
 use crate::patient::Patient;
 use dimacs::{Code, Counted, Fault, read_gr, read_nodes};
@@ -174,7 +174,7 @@ pub fn open_text<'a, R: AllocGlobal + Clock + Eprint + Files + Input>(
     which: u8,
     name: &'a str,
 ) -> Result<TextReader<'a, R>, Failed>
-    ensures { IfErr result (IsUnopened which) }
+    ensures { IfErr result (IsFileUnopened which) }
 {
     if is_input(name) {
         let input = Source::Input(Patient::new(rt, boxed_input(rt)?));

@@ -22,7 +22,7 @@ use storetexts::{LateDisk, MakesDisk, copy_text, create_text, migrate_text, upgr
 
 /// The file of a new store, which is opened or made.
 #[derive(Drop)]
-struct NewFile<'a, R> {
+struct NewStoreFile<'a, R> {
     rt: &'a R,
     progress: &'a Progress<'a, R>,
     name: &'a str,
@@ -30,7 +30,7 @@ struct NewFile<'a, R> {
 }
 
 impl<'a, R: AllocGlobal + Clock + Eprint + Files<File = File>> MakesDisk<StoreDisk<'a, R>>
-    for NewFile<'a, R> {
+    for NewStoreFile<'a, R> {
     ghost makes = { λ _. None };
 
     fn make(&mut self) -> Result<StoreDisk<'a, R>, Failed> {
@@ -58,11 +58,11 @@ impl<'a, R: AllocGlobal + Clock + Eprint + Files<File = File>> MakesDisk<StoreDi
 }
 
 /// The disk of a new store.
-type NewStore<'a, R> = LateDisk<NewFile<'a, R>, StoreDisk<'a, R>>;
+type NewStore<'a, R> = LateDisk<NewStoreFile<'a, R>, StoreDisk<'a, R>>;
 
 /// The disk of a new store in this file.
 fn new_store<'a, R>(rt: &'a R, progress: &'a Progress<'a, R>, name: &'a str) -> NewStore<'a, R> {
-    LateDisk::new(NewFile {
+    LateDisk::new(NewStoreFile {
         rt,
         progress,
         name,

@@ -3,7 +3,7 @@ ghost use Rattle.std.specs.Prelude.{◌≡◌, None, IfOk};
 ghost use Rattle.std.specs.Option.{ForSome};
 ghost use Rattle.rows.specs.Kept.{IsWidth};
 ghost use Rattle.file_jobs.specs.Kinds.{kind_of};
-ghost use Rattle.words.specs.Words.{IsJournal, delta_of, journal_of, workers_of, searched_width};
+ghost use Rattle.words.specs.Words.{IsJournal, delta_of, journal_pages_of, workers_of, searched_width};
 ghost use Rattle.printing.specs.Widths.{told_width};
 
 use crate::jobs::{batch, find_reached, joint, once, rehearse, route};
@@ -70,7 +70,7 @@ pub fn run_on_texts<R: AllocGlobal + Clock + Eprint + Files<File = File> + Input
 ) -> Result<Done, Failed>
     requires kind { kind_of job.now ≡ Kind.Texts }
     requires width { ForSome (delta_of job.now) IsWidth }
-    requires journal { ForSome (journal_of job.now) IsJournal }
+    requires journal { ForSome (journal_pages_of job.now) IsJournal }
     ensures width { IfOk result (λ done. told_width done ≡ searched_width job.now) }
     ensures workers { workers_of job.now ≡ None }
 {
@@ -123,7 +123,7 @@ pub fn run_making<R: AllocGlobal + Clock + Eprint + Files<File = File> + Input +
     job: &Job<'_>,
 ) -> Result<Done, Failed>
     requires kind { kind_of job.now ≡ Kind.NewStore }
-    requires journal { ForSome (journal_of job.now) IsJournal }
+    requires journal { ForSome (journal_pages_of job.now) IsJournal }
     ensures width { IfOk result (λ done. told_width done ≡ searched_width job.now) }
     ensures workers { workers_of job.now ≡ None }
 {

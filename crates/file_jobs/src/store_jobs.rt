@@ -11,7 +11,7 @@ ghost use Rattle.printing.specs.Replied.{number_line};
 ghost use Rattle.printing.specs.Widths.{told_width};
 ghost use Rattle.printing.specs.Writers.{Puts};
 
-use crate::command_lines::{CommandLines, Refused};
+use crate::command_lines::{CommandLines, RefusedLines};
 use crate::exports::{WrittenTexts, write_texts};
 use crate::files::{
     STORE, TextReader, buffered, fault_of_sources, open_store, open_store_to_read, open_text,
@@ -82,7 +82,7 @@ pub fn apply<R: AllocGlobal + Clock + Eprint + Files<File = File> + Input + Prin
     let (text, disk) = open_beside(rt, progress, commands, disk)?;
     let mut text = buffered(rt.alloc(), CommandLines::new(rt.alloc(), text))?;
     let mut writer = told_output(rt, progress)?;
-    let refused = Refused::new(rt.alloc());
+    let refused = RefusedLines::new(rt.alloc());
     let (outcome, _disk) = apply_text(
         rt.alloc(),
         disk,

@@ -5,10 +5,10 @@ use Rattle.std.specs.declared.io.Error.{Error}
 use Rattle.std.specs.declared.io.ErrorKind.{ErrorKind}
 use Rattle.std.specs.declared.io.ErrorKind.TheVariants.{Interrupted}
 use Rattle.filedisk.specs.declared.notes.Share.{Share}
-use Rattle.filedisk.specs.declared.notes.Asked.{Asked}
-use Rattle.filedisk.specs.declared.notes.Asked.TheVariants as asked
-use Rattle.filedisk.specs.declared.notes.Answer.{Answer}
-use Rattle.filedisk.specs.declared.notes.Answer.TheVariants as answer
+use Rattle.filedisk.specs.declared.notes.AskedOfFile.{AskedOfFile}
+use Rattle.filedisk.specs.declared.notes.AskedOfFile.TheVariants as asked
+use Rattle.filedisk.specs.declared.notes.NotedAnswer.{NotedAnswer}
+use Rattle.filedisk.specs.declared.notes.NotedAnswer.TheVariants as answer
 use Rattle.filedisk.specs.declared.notes.Note.{Note}
 
 -- A call with what it was given: of a read the offset and how many bytes were asked for. A sync is of the data and of all that tells of
@@ -36,32 +36,32 @@ abbrev pub NotedCall : Type 0
 NotedCall = FileCall × Outcome
 
 -- ---- the calls as the code notes them
-abbrev pub call_of : Asked → FileCall
-call_of asked.Size = Size
-call_of (asked.Read at count) = Read at count
-call_of (asked.Write at bytes) = Write at bytes.now
-call_of (asked.Lengthen size) = Lengthen size
-call_of asked.SyncAll = SyncAll
-call_of asked.SyncData = SyncData
-call_of (asked.Lock share) = Lock share
-call_of asked.SyncFolder = SyncFolder
-call_of asked.Duplicate = Duplicate
-call_of asked.Unlock = Unlock
+abbrev pub file_call_of : AskedOfFile → FileCall
+file_call_of asked.Size = Size
+file_call_of (asked.Read at count) = Read at count
+file_call_of (asked.Write at bytes) = Write at bytes.now
+file_call_of (asked.Lengthen size) = Lengthen size
+file_call_of asked.SyncAll = SyncAll
+file_call_of asked.SyncData = SyncData
+file_call_of (asked.Lock share) = Lock share
+file_call_of asked.SyncFolder = SyncFolder
+file_call_of asked.Duplicate = Duplicate
+file_call_of asked.Unlock = Unlock
 
-abbrev pub outcome_of : Answer → Outcome
+abbrev pub outcome_of : NotedAnswer → Outcome
 outcome_of answer.Done = Done
 outcome_of (answer.Told n) = Told n
 outcome_of (answer.Gave bytes) = Gave bytes.now
 outcome_of (answer.Failed kind) = Failed kind
 
 abbrev pub noted : Note → NotedCall
-noted note = (call_of note.asked, outcome_of note.answer)
+noted note = (file_call_of note.asked, outcome_of note.answer)
 
 -- ---- what a call answered, by its result
 -- of a call that tells a number
-abbrev pub told : Result ℕ Error → Outcome
-told (Ok n) = Told n
-told (Err error) = Failed (error_kind error)
+abbrev pub told_number : Result ℕ Error → Outcome
+told_number (Ok n) = Told n
+told_number (Err error) = Failed (error_kind error)
 
 -- of a call that tells nothing
 abbrev pub done : {A : Type 0} → Result A Error → Outcome

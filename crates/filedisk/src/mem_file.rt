@@ -6,11 +6,11 @@ ghost use Rattle.disk.specs.Contents.{overwritten, AreAmong, Only};
 ghost use Rattle.disk.specs.MemDisk.{bytes_of, synced_of, is_unsynced_in, armed_of, IsSame};
 ghost use Rattle.disk.specs.Stop.{TakesPicks};
 ghost use Rattle.filedisk.specs.Files.{Unchanged, Tears, lengthened};
-ghost use Rattle.filedisk.specs.Noted.{outcome_of, told, has_failed_sync};
+ghost use Rattle.filedisk.specs.Noted.{outcome_of, told_number, has_failed_sync};
 ghost use Rattle.filedisk.specs.MemFiles.{left_of, moment_of, left_since_of};
 
 use crate::RawFile;
-use crate::notes::{Answer, Asked, Note, Notes};
+use crate::notes::{AskedOfFile, Note, NotedAnswer, Notes};
 use crate::system::as_done;
 use disk::{Disk, DiskError, MemDisk, Pick, Stoppable};
 use std::alloc::Global;
@@ -50,22 +50,22 @@ fn broken() -> io::Error
 }
 
 /// The answer of a call that returns a length.
-fn as_size<'a>(answer: &io::Result<u64>) -> Answer<'a>
-    ensures { outcome_of result ≡ told answer.now }
+fn as_size<'a>(answer: &io::Result<u64>) -> NotedAnswer<'a>
+    ensures { outcome_of result ≡ told_number answer.now }
 {
     match answer {
-        Ok(size) => Answer::Told(*size),
-        Err(error) => Answer::Failed(error.kind()),
+        Ok(size) => NotedAnswer::Told(*size),
+        Err(error) => NotedAnswer::Failed(error.kind()),
     }
 }
 
 /// The answer of a call that returns how many bytes it wrote.
-fn as_count<'a>(answer: &io::Result<usize>) -> Answer<'a>
-    ensures { outcome_of result ≡ told answer.now }
+fn as_count<'a>(answer: &io::Result<usize>) -> NotedAnswer<'a>
+    ensures { outcome_of result ≡ told_number answer.now }
 {
     match answer {
-        Ok(count) => Answer::Told(*count as u64),
-        Err(error) => Answer::Failed(error.kind()),
+        Ok(count) => NotedAnswer::Told(*count as u64),
+        Err(error) => NotedAnswer::Failed(error.kind()),
     }
 }
 
@@ -237,7 +237,7 @@ impl RawFile for MemFile {
     fn size(&mut self) -> io::Result<u64> {
         let fails = comes_now(&mut self.fails_in);
         let outcome = size_of(&mut self.disk, fails);
-        let asked = Asked::Size;
+        let asked = AskedOfFile::Size;
         let answer = as_size(&outcome);
         self.notes = self.notes.then(&Note { asked, answer });
         outcome
@@ -245,16 +245,16 @@ impl RawFile for MemFile {
 
     fn read_some(&mut self, at: u64, into: &mut [u8]) -> io::Result<usize> {
         let count = into.len();
-        let asked = Asked::Read { at, count };
+        let asked = AskedOfFile::Read { at, count };
         let fails = comes_now(&mut self.fails_in);
         let outcome = read_front(&mut self.disk, fails, self.most, at, into);
         match outcome {
             Ok(given) => {
-                let answer = Answer::Gave(&into[..given]);
+                let answer = NotedAnswer::Gave(&into[..given]);
                 self.notes = self.notes.then(&Note { asked, answer });
             }
             Err(error) => {
-                let answer = Answer::Failed(error.kind());
+                let answer = NotedAnswer::Failed(error.kind());
                 self.notes = self.notes.then(&Note { asked, answer });
             }
         }
@@ -264,7 +264,7 @@ impl RawFile for MemFile {
     fn lengthen(&mut self, size: u64) -> io::Result<()> {
         let fails = comes_now(&mut self.fails_in);
         let outcome = grow(self.alloc, &mut self.disk, fails, size);
-        let asked = Asked::Lengthen { size };
+        let asked = AskedOfFile::Lengthen { size };
         let answer = as_done(&outcome);
         self.notes = self.notes.then(&Note { asked, answer });
         outcome
@@ -273,7 +273,7 @@ impl RawFile for MemFile {
     fn write_some(&mut self, at: u64, bytes: &[u8]) -> io::Result<usize> {
         let fails = comes_now(&mut self.fails_in);
         let outcome = write_front(&mut self.disk, fails, self.most, at, bytes);
-        let asked = Asked::Write { at, bytes };
+        let asked = AskedOfFile::Write { at, bytes };
         let answer = as_count(&outcome);
         self.notes = self.notes.then(&Note { asked, answer });
         outcome
@@ -286,7 +286,7 @@ impl RawFile for MemFile {
         let fails = comes_now(&mut self.fails_in);
         let outcome = sync_once(&mut self.disk, fails);
         self.sync_failed = outcome.is_err();
-        let asked = Asked::SyncAll;
+        let asked = AskedOfFile::SyncAll;
         let answer = as_done(&outcome);
         self.notes = self.notes.then(&Note { asked, answer });
         outcome

@@ -17,7 +17,7 @@ pub(crate) enum Share {
 
 /// A call, with its arguments.
 #[derive(Clone, Copy, Drop)]
-pub(crate) enum Asked<'a> {
+pub(crate) enum AskedOfFile<'a> {
     Size,
     Read { at: u64, count: usize },
     Write { at: u64, bytes: &'a [u8] },
@@ -33,7 +33,7 @@ pub(crate) enum Asked<'a> {
 
 /// What a call answered.
 #[derive(Clone, Copy, Drop)]
-pub(crate) enum Answer<'a> {
+pub(crate) enum NotedAnswer<'a> {
     Done,
     Told(u64),
     Gave(&'a [u8]),
@@ -43,8 +43,8 @@ pub(crate) enum Answer<'a> {
 /// A call with its answer.
 #[derive(Clone, Copy, Drop)]
 pub(crate) struct Note<'a> {
-    pub(crate) asked: Asked<'a>,
-    pub(crate) answer: Answer<'a>,
+    pub(crate) asked: AskedOfFile<'a>,
+    pub(crate) answer: NotedAnswer<'a>,
 }
 
 /// The calls that were made, the newest first. It takes no bytes, and its methods do nothing at run time.

@@ -2,7 +2,7 @@
 ghost use Rattle.std.specs.Prelude.{◌≡◌, ◌+◌, ◌-◌, ◌≤◌, ◌↔◌, ◌++◌, ◌∷◌, List, ℕ, take, drop, length, slice_range, true, false, IfOk, OnOk, OnErr, IsErr};
 ghost use Rattle.disk.specs.Contents.{overwritten, AreAmong, Only};
 ghost use Rattle.filedisk.specs.Files.{Unchanged, Tears, lengthened};
-ghost use Rattle.filedisk.specs.Noted.{NotedCall, Size, Read, Write, Lengthen, told, done, gave, Makes, MakesSync, has_failed_sync};
+ghost use Rattle.filedisk.specs.Noted.{NotedCall, Size, Read, Write, Lengthen, told_number, done, gave, Makes, MakesSync, has_failed_sync};
 
 use std::io;
 
@@ -30,7 +30,7 @@ pub trait RawFile {
 
     /// The content's length.
     fn size(&mut self) -> io::Result<u64>
-        ensures made { calls self.new ≡ (Size, told result) ∷ calls self.old }
+        ensures made { calls self.new ≡ (Size, told_number result) ∷ calls self.old }
         ensures length { honest self.old → IfOk result (λ n. n ≡ length (content self.old)) }
         ensures same { honest self.old → Unchanged content left moment left_since self.old self.new }
         ensures honest { honest self.new ↔ honest self.old };
@@ -58,7 +58,7 @@ pub trait RawFile {
     /// range, and what it might have left before.
     fn write_some(&mut self, at: u64, bytes: &[u8]) -> io::Result<usize>
         requires { honest self.old → at + length bytes.now ≤ length (content self.old) }
-        ensures made { Makes (Write at bytes.now) (told result) (calls self.old) (calls self.new) }
+        ensures made { Makes (Write at bytes.now) (told_number result) (calls self.old) (calls self.new) }
         ensures bound { IfOk result (λ n. n ≤ length bytes.now) }
         ensures written { honest self.old → IfOk result (λ n. content self.new ≡ overwritten (content self.old) at (take n bytes.now)) }
         ensures tears { honest self.old → Tears at (length bytes.now) content left moment left_since self.old self.new }

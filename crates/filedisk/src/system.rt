@@ -1,9 +1,9 @@
 //! The system's calls on an open file, each noted with its answer. No clause can see the system: only by reading this file can one check that each function
 //! here makes the call that it notes, of this file. The functions take any type of file, so that tests can use one that reports which calls it got.
 ghost use Rattle.std.specs.Prelude.{◌≡◌, ◌≤◌, [], ◌∷◌, length, IfOk};
-ghost use Rattle.filedisk.specs.Noted.{Size, Read, Write, Lengthen, SyncAll, SyncData, Lock, SyncFolder, Duplicate, Unlock, Done, call_of, outcome_of, told, done, gave};
+ghost use Rattle.filedisk.specs.Noted.{Size, Read, Write, Lengthen, SyncAll, SyncData, Lock, SyncFolder, Duplicate, Unlock, Done, file_call_of, outcome_of, told_number, done, gave};
 
-use crate::notes::{Answer, Asked, Note, Notes, Share};
+use crate::notes::{AskedOfFile, Note, NotedAnswer, Notes, Share};
 use std::fs::{File, OpenFile};
 use std::io;
 use std::os::unix::fs::FileExt;
@@ -35,12 +35,12 @@ impl FileLock {
 }
 
 /// The answer of a call that returns nothing.
-pub(crate) fn as_done<'a>(answer: &io::Result<()>) -> Answer<'a>
+pub(crate) fn as_done<'a>(answer: &io::Result<()>) -> NotedAnswer<'a>
     ensures { outcome_of result ≡ done answer.now }
 {
     match answer {
-        Ok(()) => Answer::Done,
-        Err(error) => Answer::Failed(error.kind()),
+        Ok(()) => NotedAnswer::Done,
+        Err(error) => NotedAnswer::Failed(error.kind()),
     }
 }
 
@@ -57,8 +57,8 @@ impl<F> NotedFile<F> {
         }
     }
 
-    fn note(&mut self, asked: Asked<'_>, answer: Answer<'_>)
-        ensures { self.new.notes.calls ≡ (call_of asked.entry, outcome_of answer.entry) ∷ self.old.notes.calls }
+    fn note(&mut self, asked: AskedOfFile<'_>, answer: NotedAnswer<'_>)
+        ensures { self.new.notes.calls ≡ (file_call_of asked.entry, outcome_of answer.entry) ∷ self.old.notes.calls }
     {
         self.notes = self.notes.then(&Note { asked, answer });
     }
@@ -75,16 +75,16 @@ impl<F: OpenFile> NotedFile<F> {
 
     /// The file's length.
     pub(crate) fn size(&mut self) -> io::Result<u64>
-        ensures { self.new.notes.calls ≡ (Size, told result) ∷ self.old.notes.calls }
+        ensures { self.new.notes.calls ≡ (Size, told_number result) ∷ self.old.notes.calls }
     {
         let answer = self.file.metadata();
         match answer {
             Ok(metadata) => {
-                self.note(Asked::Size, Answer::Told(metadata.len()));
+                self.note(AskedOfFile::Size, NotedAnswer::Told(metadata.len()));
                 Ok(metadata.len())
             }
             Err(error) => {
-                self.note(Asked::Size, Answer::Failed(error.kind()));
+                self.note(AskedOfFile::Size, NotedAnswer::Failed(error.kind()));
                 Err(error)
             }
         }
@@ -95,7 +95,7 @@ impl<F: OpenFile> NotedFile<F> {
         ensures { self.new.notes.calls ≡ (Lengthen size, done result) ∷ self.old.notes.calls }
     {
         let answer = self.file.set_len(size);
-        self.note(Asked::Lengthen { size }, as_done(&answer));
+        self.note(AskedOfFile::Lengthen { size }, as_done(&answer));
         answer
     }
 
@@ -104,7 +104,7 @@ impl<F: OpenFile> NotedFile<F> {
         ensures { calls_made self.new ≡ (SyncAll, done result) ∷ calls_made self.old }
     {
         let answer = self.file.sync_all();
-        self.note(Asked::SyncAll, as_done(&answer));
+        self.note(AskedOfFile::SyncAll, as_done(&answer));
         answer
     }
 
@@ -113,7 +113,7 @@ impl<F: OpenFile> NotedFile<F> {
         ensures { calls_made self.new ≡ (SyncData, done result) ∷ calls_made self.old }
     {
         let answer = self.file.sync_data();
-        self.note(Asked::SyncData, as_done(&answer));
+        self.note(AskedOfFile::SyncData, as_done(&answer));
         answer
     }
 
@@ -122,7 +122,7 @@ impl<F: OpenFile> NotedFile<F> {
         ensures { calls_made self.new ≡ (SyncFolder, done result) ∷ calls_made self.old }
     {
         let answer = folder.sync_all();
-        self.note(Asked::SyncFolder, as_done(&answer));
+        self.note(AskedOfFile::SyncFolder, as_done(&answer));
         answer
     }
 }
@@ -136,8 +136,14 @@ impl<F: FileExt> NotedFile<F> {
         let count = into.len();
         let answer = self.file.read_at(into, at);
         match answer {
-            Ok(given) => self.note(Asked::Read { at, count }, Answer::Gave(&into[..given])),
-            Err(error) => self.note(Asked::Read { at, count }, Answer::Failed(error.kind())),
+            Ok(given) => self.note(
+                AskedOfFile::Read { at, count },
+                NotedAnswer::Gave(&into[..given]),
+            ),
+            Err(error) => self.note(
+                AskedOfFile::Read { at, count },
+                NotedAnswer::Failed(error.kind()),
+            ),
         }
         answer
     }
@@ -145,12 +151,18 @@ impl<F: FileExt> NotedFile<F> {
     /// Writes once, at this offset.
     pub(crate) fn write(&mut self, at: u64, bytes: &[u8]) -> io::Result<usize>
         ensures bound { IfOk result (λ n. n ≤ length bytes.now) }
-        ensures noted { self.new.notes.calls ≡ (Write at bytes.now, told result) ∷ self.old.notes.calls }
+        ensures noted { self.new.notes.calls ≡ (Write at bytes.now, told_number result) ∷ self.old.notes.calls }
     {
         let answer = self.file.write_at(bytes, at);
         match answer {
-            Ok(count) => self.note(Asked::Write { at, bytes }, Answer::Told(count as u64)),
-            Err(error) => self.note(Asked::Write { at, bytes }, Answer::Failed(error.kind())),
+            Ok(count) => self.note(
+                AskedOfFile::Write { at, bytes },
+                NotedAnswer::Told(count as u64),
+            ),
+            Err(error) => self.note(
+                AskedOfFile::Write { at, bytes },
+                NotedAnswer::Failed(error.kind()),
+            ),
         }
         answer
     }
@@ -170,7 +182,7 @@ impl NotedFile<File> {
             Ok(()) => Ok(()),
             Err(error) => Err(io::Error::from(error)),
         };
-        self.note(Asked::Lock(share), as_done(&answer));
+        self.note(AskedOfFile::Lock(share), as_done(&answer));
         answer
     }
 
@@ -179,7 +191,7 @@ impl NotedFile<File> {
         ensures { self.new.notes.calls ≡ (Unlock, done result) ∷ self.old.notes.calls }
     {
         let answer = self.file.unlock();
-        self.note(Asked::Unlock, as_done(&answer));
+        self.note(AskedOfFile::Unlock, as_done(&answer));
         answer
     }
 
@@ -189,8 +201,8 @@ impl NotedFile<File> {
     {
         let file = self.file.try_clone()?;
         let notes = self.notes.then(&Note {
-            asked: Asked::Duplicate,
-            answer: Answer::Done,
+            asked: AskedOfFile::Duplicate,
+            answer: NotedAnswer::Done,
         });
         Ok(FileLock {
             file: NotedFile { file, notes },

@@ -1,6 +1,6 @@
 //! A file of the system as a `RawFile`.
 ghost use Rattle.std.specs.Prelude.{◌≡◌, ◌≤◌, [], ◌∷◌, true, false, length, IfOk, IsTrue, IsErr};
-ghost use Rattle.filedisk.specs.Noted.{Size, Read, Write, Lengthen, SyncAll, SyncData, told, done, gave, Makes, MakesSync, has_failed_sync, has_synced_length};
+ghost use Rattle.filedisk.specs.Noted.{Size, Read, Write, Lengthen, SyncAll, SyncData, told_number, done, gave, Makes, MakesSync, has_failed_sync, has_synced_length};
 
 use crate::RawFile;
 use crate::causes::{Call, Failure};
@@ -30,7 +30,7 @@ const MOST_TRIES: u32 = 1_000_000;
 /// Writes once, and repeats the call if a signal interrupts it.
 fn write_uninterrupted(file: &mut NotedFile<File>, at: u64, bytes: &[u8]) -> io::Result<usize>
     ensures bound { IfOk result (λ n. n ≤ length bytes.now) }
-    ensures made { Makes (Write at bytes.now) (told result) file.old.notes.calls file.new.notes.calls }
+    ensures made { Makes (Write at bytes.now) (told_number result) file.old.notes.calls file.new.notes.calls }
 {
     let mut tries = 0u32;
     while tries < MOST_TRIES {

@@ -14,14 +14,14 @@ use Rattle.relax.specs.Values.{value_at}
 use Rattle.buckets.specs.Queue.{Entries, bucket, outside}
 use Rattle.buckets.proofs.Tables.{same_entries, get-insert_same, get-insert_other}
 use Rattle.buckets.proofs.Taken.{get_kept, value_in, empty_from_nothing}
-use Rattle.frontier.specs.Entries.{Lists, entries_at, IsAdded}
+use Rattle.frontier.specs.Entries.{EntryLists, entries_at, IsAdded}
 use Rattle.frontier.specs.Frontier.{TakesAny}
-use Rattle.frontier.specs.Live.{AreDealt, AreDead, AreEntriesOf, AreKept, IsBag, IsDealt, IsLeastLive, IsLeastOf, IsNowhere, all_queued, are_once, is_at_most, is_in_bag, is_live, is_queued, is_same, queued, values_of}
+use Rattle.frontier.specs.Live.{AreEntriesDealt, AreDead, AreEntriesOf, AreEntriesKept, IsBag, IsDealt, IsLeastLive, IsLeastOf, IsNowhere, all_queued, are_once, is_at_most, is_in_bag, is_live, is_queued, is_same, queued, values_of}
 use Rattle.frontier.proofs.EntryLists.{Contains-none, member_added}
 use Rattle.frontier.proofs.Live.{any_here, at_most_of, both, get-values_of, has_live, here_any, in_bucket, key_of, live_has, not_true, of_at_most, of_key, once-push, outside_kept, outside_left, queued_get, queued_has, rest_is, same_option, AreEntriesOf-none, AreEntriesOf-same}
 
 -- ---- what is queued
-module _ (width : ℕ) (lists : Lists) (bag : List (ℕ × ℕ)) where
+module _ (width : ℕ) (lists : EntryLists) (bag : List (ℕ × ℕ)) where
   -- an entry that stands in the list of its bucket, or in the bag
   abbrev pub Stands : ℕ × ℕ → Type 0
   Stands e = Contains (entries_at lists ((e.1 / width) % length lists)) e ⊎ Contains bag e
@@ -61,7 +61,7 @@ module _ (width : ℕ) (lists : Lists) (bag : List (ℕ × ℕ)) where
           | inr c ↦ or_right (in_list q (Some x)) (in_bag q (Some x)) (any_here bag (q, x) c)
         ]))
 
-pub all_queued-none : (width : ℕ) (lists : Lists) (bag : List (ℕ × ℕ)) (t : List (Option ℕ)) → ((p : ℕ) → entries_at lists p ≡ []) → bag ≡ [] → all_queued width lists bag t ≡ empty
+pub all_queued-none : (width : ℕ) (lists : EntryLists) (bag : List (ℕ × ℕ)) (t : List (Option ℕ)) → ((p : ℕ) → entries_at lists p ≡ []) → bag ≡ [] → all_queued width lists bag t ≡ empty
 all_queued-none width lists bag t none bare = empty_from_nothing (all_queued width lists bag t) (λ q x e. elim (all_has width lists bag t q x e).1 as (λ _. ⊥) [
   | inl c ↦ Contains-none (q, x) (subst (λ (l : List (ℕ × ℕ)). Contains l (q, x)) (none ((x / width) % length lists)) c)
   | inr c ↦ Contains-none (q, x) (subst (λ (l : List (ℕ × ℕ)). Contains l (q, x)) bare c)
@@ -69,7 +69,7 @@ all_queued-none width lists bag t none bare = empty_from_nothing (all_queued wid
 
 -- ---- an entry is dealt
 module _ (t : List (Option ℕ)) (width : ℕ) (e : ℕ × ℕ) where
-  pub IsDealt-listed : (old new : Lists) (bag : List (ℕ × ℕ)) → IsAdded old new ((e.1 / width) % length old) e → length new ≡ length old → IsDealt t width e old bag new bag
+  pub IsDealt-listed : (old new : EntryLists) (bag : List (ℕ × ℕ)) → IsAdded old new ((e.1 / width) % length old) e → length new ≡ length old → IsDealt t width e old bag new bag
   IsDealt-listed old new bag added size = record {
     size = size;
     listed = λ p f c. elim (member_added width 0 old new ((e.1 / width) % length old) e added p f c) as (λ _. Contains (entries_at old p) f ⊎ (e ≡ f)) [
@@ -85,7 +85,7 @@ module _ (t : List (Option ℕ)) (width : ℕ) (e : ℕ × ℕ) where
     live = λ _. inl (subst (λ n. Contains (entries_at new ((e.1 / width) % n)) e) (sym size) (subst (λ (l : List (ℕ × ℕ)). Contains l e) (sym added.here) (Contains-push (entries_at old ((e.1 / width) % length old)) e)));
   }
 
-  pub IsDealt-bagged : (lists : Lists) (bag bag' : List (ℕ × ℕ)) → bag' ≡ bag ++ e ∷ [] → IsDealt t width e lists bag lists bag'
+  pub IsDealt-bagged : (lists : EntryLists) (bag bag' : List (ℕ × ℕ)) → bag' ≡ bag ++ e ∷ [] → IsDealt t width e lists bag lists bag'
   IsDealt-bagged lists bag bag' is = record {
     size = refl;
     listed = λ p f c. inl c;
@@ -95,7 +95,7 @@ module _ (t : List (Option ℕ)) (width : ℕ) (e : ℕ × ℕ) where
     live = λ _. inr (subst (λ (l : List (ℕ × ℕ)). Contains l e) (sym is) (Contains-push bag e));
   }
 
-  pub IsDealt-dead : (lists : Lists) (bag : List (ℕ × ℕ)) → is_live t e ≡ false → IsDealt t width e lists bag lists bag
+  pub IsDealt-dead : (lists : EntryLists) (bag : List (ℕ × ℕ)) → is_live t e ≡ false → IsDealt t width e lists bag lists bag
   IsDealt-dead lists bag dead = record {
     size = refl;
     listed = λ p f c. inl c;
@@ -113,8 +113,8 @@ no_entry : (m : Entries) → m ≡ empty → (q x : ℕ) → get m q ≡ Some x 
 no_entry m none q x has = let bare : None ≡ Some x = sym (ap (λ (n : Entries). get n q) none ∙ get-empty nat_cmp q) ∙ has in let absurdity : ⊥ = cc in absurdity
 
 -- ---- all stay where they belong
-module _ (t : List (Option ℕ)) (width bound : ℕ) (lists : Lists) (bag : List (ℕ × ℕ)) (kept : AreKept t width bound lists bag) where
-  pub AreKept-same : (new : Lists) → ((p : ℕ) → entries_at new p ≡ entries_at lists p) → AreKept t width bound new bag
+module _ (t : List (Option ℕ)) (width bound : ℕ) (lists : EntryLists) (bag : List (ℕ × ℕ)) (kept : AreEntriesKept t width bound lists bag) where
+  pub AreKept-same : (new : EntryLists) → ((p : ℕ) → entries_at new p ≡ entries_at lists p) → AreEntriesKept t width bound new bag
   AreKept-same new same = record {
     stand = AreEntriesOf-same t lists new same kept.stand;
     below = λ p e c. kept.below p e (subst (λ (l : List (ℕ × ℕ)). Contains l e) (same p) c);
@@ -137,7 +137,7 @@ module _ (t : List (Option ℕ)) (width bound : ℕ) (lists : Lists) (bag : List
         ]
 
     -- a value falls
-    pub AreKept-lowered : AreKept (set t node (Some value)) width bound lists bag
+    pub AreKept-lowered : AreEntriesKept (set t node (Some value)) width bound lists bag
     AreKept-lowered = record {
       stand = record { node = kept.stand.node; above = λ p e c. stays_above e (kept.stand.above p e c); once = kept.stand.once };
       below = kept.below;
@@ -158,7 +158,7 @@ module _ (t : List (Option ℕ)) (width bound : ℕ) (lists : Lists) (bag : List
     is_at_most-lowered = of_at_most value _ value (at_node node refl) (omega arith)
 
     -- what is queued then
-    pub all_queued-lowered : (lists' : Lists) (bag' : List (ℕ × ℕ)) → IsDealt (set t node (Some value)) width (node, value) lists bag lists' bag' → all_queued width lists' bag' (set t node (Some value)) ≡ insert (all_queued width lists bag t) node value
+    pub all_queued-lowered : (lists' : EntryLists) (bag' : List (ℕ × ℕ)) → IsDealt (set t node (Some value)) width (node, value) lists bag lists' bag' → all_queued width lists' bag' (set t node (Some value)) ≡ insert (all_queued width lists bag t) node value
     all_queued-lowered lists' bag' dealt = same_entries _ _ (λ q. elim (cases_eq q node) as (λ _. get (all_queued width lists' bag' (set t node (Some value))) q ≡ get (insert (all_queued width lists bag t) node value) q) [
       | inl e ↦
           all_get width lists' bag' (set t node (Some value)) q value (at_node q e) (subst (λ z. Stands width lists' bag' (z, value)) (sym e) (dealt.live (has_live (set t node (Some value)) (node, value) (at_node node refl))))
@@ -187,7 +187,7 @@ module _ (t : List (Option ℕ)) (width bound : ℕ) (lists : Lists) (bag : List
     ])
 
   module _ (e : ℕ × ℕ) (low : 1 ≤ e.0) (above : is_at_most t e ≡ true) (lone : IsNowhere lists bag e) where
-    pub AreKept-listed : (new : Lists) (p : ℕ) → IsAdded lists new p e → e.1 / width < bound → AreKept t width bound new bag
+    pub AreKept-listed : (new : EntryLists) (p : ℕ) → IsAdded lists new p e → e.1 / width < bound → AreEntriesKept t width bound new bag
     AreKept-listed new p added near = record {
       stand = record {
         node = λ q f c. elim (member_added width 0 lists new p e added q f c) as (λ _. 1 ≤ f.0) [
@@ -210,7 +210,7 @@ module _ (t : List (Option ℕ)) (width bound : ℕ) (lists : Lists) (bag : List
       rest = kept.rest;
     }
 
-    pub AreKept-bagged : (bag' : List (ℕ × ℕ)) → bag' ≡ bag ++ e ∷ [] → bound ≤ e.1 / width → e.1 < 18446744073709551615 → AreKept t width bound lists bag'
+    pub AreKept-bagged : (bag' : List (ℕ × ℕ)) → bag' ≡ bag ++ e ∷ [] → bound ≤ e.1 / width → e.1 < 18446744073709551615 → AreEntriesKept t width bound lists bag'
     AreKept-bagged bag' is far small = record {
       stand = kept.stand;
       below = kept.below;
@@ -227,7 +227,7 @@ module _ (t : List (Option ℕ)) (width bound : ℕ) (lists : Lists) (bag : List
         cases f c = Contains-push_cases bag e f (subst (λ (l : List (ℕ × ℕ)). Contains l f) is c)
 
   -- a bucket of the lists is taken
-  module _ (new : Lists) (b : ℕ) (nodes : List ℕ) (takes : TakesAny width (queued width lists t) b nodes (queued width new t)) where
+  module _ (new : EntryLists) (b : ℕ) (nodes : List ℕ) (takes : TakesAny width (queued width lists t) b nodes (queued width new t)) where
     taken_below : b < bound
     taken_below =
         let u = first_of nodes takes.some_node in
@@ -293,7 +293,7 @@ module _ (t : List (Option ℕ)) (width bound : ℕ) (lists : Lists) (bag : List
 
 -- ---- the bag is dealt
 
-pub AreDealt-none : (t : List (Option ℕ)) (width : ℕ) (entries : List (ℕ × ℕ)) (lists : Lists) (bag : List (ℕ × ℕ)) → ((p : ℕ) → entries_at lists p ≡ []) → bag ≡ [] → AreDealt t width entries 0 lists bag
+pub AreDealt-none : (t : List (Option ℕ)) (width : ℕ) (entries : List (ℕ × ℕ)) (lists : EntryLists) (bag : List (ℕ × ℕ)) → ((p : ℕ) → entries_at lists p ≡ []) → bag ≡ [] → AreEntriesDealt t width entries 0 lists bag
 AreDealt-none t width entries lists bag none bare = record {
   listed = λ p e c. absurd (Contains-none e (subst (λ (l : List (ℕ × ℕ)). Contains l e) (none p) c));
   bagged = λ e c. absurd (Contains-none e (subst (λ (l : List (ℕ × ℕ)). Contains l e) bare c));
@@ -309,7 +309,7 @@ IsBag-none t width bound bag bare = record {
   once = ap are_once bare;
 }
 
-pub AreKept-none : (t : List (Option ℕ)) (width bound : ℕ) (lists : Lists) (bag : List (ℕ × ℕ)) → ((p : ℕ) → entries_at lists p ≡ []) → bag ≡ [] → AreKept t width bound lists bag
+pub AreKept-none : (t : List (Option ℕ)) (width bound : ℕ) (lists : EntryLists) (bag : List (ℕ × ℕ)) → ((p : ℕ) → entries_at lists p ≡ []) → bag ≡ [] → AreEntriesKept t width bound lists bag
 AreKept-none t width bound lists bag none bare = record {
   stand = AreEntriesOf-none t lists none;
   below = λ p e c. absurd (Contains-none e (subst (λ (l : List (ℕ × ℕ)). Contains l e) (none p) c));
@@ -317,7 +317,7 @@ AreKept-none t width bound lists bag none bare = record {
 }
 
 -- the lists reach farther, where nothing is in the bag
-pub AreKept-slid : (t : List (Option ℕ)) (width bound bound' : ℕ) (lists : Lists) (bag : List (ℕ × ℕ)) → AreKept t width bound lists bag → bag ≡ [] → bound ≤ bound' → AreKept t width bound' lists bag
+pub AreKept-slid : (t : List (Option ℕ)) (width bound bound' : ℕ) (lists : EntryLists) (bag : List (ℕ × ℕ)) → AreEntriesKept t width bound lists bag → bag ≡ [] → bound ≤ bound' → AreEntriesKept t width bound' lists bag
 AreKept-slid t width bound bound' lists bag kept bare more = record {
   stand = kept.stand;
   below = λ p e c. let was : e.1 / width < bound = kept.below p e c in omega (arith, was);
@@ -325,11 +325,11 @@ AreKept-slid t width bound bound' lists bag kept bare more = record {
 }
 
 -- a bag is emptied of what is not live
-pub AreKept-cleared : (t : List (Option ℕ)) (width bound : ℕ) (lists : Lists) (bag bag' : List (ℕ × ℕ)) → AreKept t width bound lists bag → bag' ≡ [] → AreKept t width bound lists bag'
+pub AreKept-cleared : (t : List (Option ℕ)) (width bound : ℕ) (lists : EntryLists) (bag bag' : List (ℕ × ℕ)) → AreEntriesKept t width bound lists bag → bag' ≡ [] → AreEntriesKept t width bound lists bag'
 AreKept-cleared t width bound lists bag bag' kept bare = record { stand = kept.stand; below = kept.below; rest = IsBag-none t width bound bag' bare }
 
 -- entries of some lists are taken out of them
-pub AreKept-fewer : (t : List (Option ℕ)) (width bound : ℕ) (lists new : Lists) (bag : List (ℕ × ℕ)) → AreKept t width bound lists bag → AreEntriesOf t new → ((p : ℕ) (e : ℕ × ℕ) → Contains (entries_at new p) e → Contains (entries_at lists p) e) → AreKept t width bound new bag
+pub AreKept-fewer : (t : List (Option ℕ)) (width bound : ℕ) (lists new : EntryLists) (bag : List (ℕ × ℕ)) → AreEntriesKept t width bound lists bag → AreEntriesOf t new → ((p : ℕ) (e : ℕ × ℕ) → Contains (entries_at new p) e → Contains (entries_at lists p) e) → AreEntriesKept t width bound new bag
 AreKept-fewer t width bound lists new bag kept stand fewer = record { stand = stand; below = λ p e c. kept.below p e (fewer p e c); rest = kept.rest }
 
 -- ---- the least live entry
@@ -387,12 +387,12 @@ once_apart (x ∷ xs) (suc k) d once lt (suc j, within, e) =
     let parts = both (not (list_any (is_same x) xs)) (are_once xs) once in
     once_apart xs k d parts.1 (omega arith) (j, omega arith, e)
 
-module _ (t : List (Option ℕ)) (width : ℕ) (entries : List (ℕ × ℕ)) (k : ℕ) (lists : Lists) (bag : List (ℕ × ℕ)) (dealt : AreDealt t width entries k lists bag) where
+module _ (t : List (Option ℕ)) (width : ℕ) (entries : List (ℕ × ℕ)) (k : ℕ) (lists : EntryLists) (bag : List (ℕ × ℕ)) (dealt : AreEntriesDealt t width entries k lists bag) where
   -- the next entry stands nowhere yet
   pub IsNowhere-next : (d : ℕ × ℕ) → are_once entries ≡ true → k < length entries → IsNowhere lists bag (get_or entries k d)
   IsNowhere-next d once lt = (λ p c. once_apart entries k d once lt (dealt.listed p (get_or entries k d) c), λ c. once_apart entries k d once lt (dealt.bagged (get_or entries k d) c))
 
-  pub AreDealt-step : (d : ℕ × ℕ) (lists' : Lists) (bag' : List (ℕ × ℕ)) → k < length entries → IsDealt t width (get_or entries k d) lists bag lists' bag' → AreDealt t width entries (k + 1) lists' bag'
+  pub AreDealt-step : (d : ℕ × ℕ) (lists' : EntryLists) (bag' : List (ℕ × ℕ)) → k < length entries → IsDealt t width (get_or entries k d) lists bag lists' bag' → AreEntriesDealt t width entries (k + 1) lists' bag'
   AreDealt-step d lists' bag' lt one = record {
     listed = λ p e c. elim (one.listed p e c) as (λ _. Contains (take (k + 1) entries) e) [
       | inl was ↦ before e (dealt.listed p e was)
@@ -425,7 +425,7 @@ take_whole [] = refl
 take_whole (x ∷ xs) = ap (λ (l : List (ℕ × ℕ)). x ∷ l) (take_whole xs)
 
 -- all of a bag is dealt: what is queued stays so
-module _ (t : List (Option ℕ)) (width : ℕ) (old lists : Lists) (entries bag : List (ℕ × ℕ)) (none : queued width old t ≡ empty) (dealt : AreDealt t width entries (length entries) lists bag) where
+module _ (t : List (Option ℕ)) (width : ℕ) (old lists : EntryLists) (entries bag : List (ℕ × ℕ)) (none : queued width old t ≡ empty) (dealt : AreEntriesDealt t width entries (length entries) lists bag) where
   whole : take (length entries) entries ≡ entries
   whole = take_whole entries
 
@@ -445,7 +445,7 @@ module _ (t : List (Option ℕ)) (width : ℕ) (old lists : Lists) (entries bag 
       ])))
 
   -- the least entry stands in its list, which is below the bound
-  pub queued-least : (bound least : ℕ) → AreKept t width bound lists bag → IsLeastLive t entries least → least / width < bound → queued width lists t ≡ empty → ⊥
+  pub queued-least : (bound least : ℕ) → AreEntriesKept t width bound lists bag → IsLeastLive t entries least → least / width < bound → queued width lists t ≡ empty → ⊥
   queued-least bound least kept is near over =
       elim (dealt.each (is.node, least) (subst (λ (l : List (ℕ × ℕ)). Contains l (is.node, least)) (sym whole) is.member) is.live) as (λ _. ⊥) [
         | inl c ↦ no_entry (queued width lists t) over is.node least (queued_get width lists t is.node least (live_has t (is.node, least) is.live) c)
@@ -453,7 +453,7 @@ module _ (t : List (Option ℕ)) (width : ℕ) (old lists : Lists) (entries bag 
       ]
 
 -- nothing of a bag is live
-pub all_queued-dead : (t : List (Option ℕ)) (width : ℕ) (lists : Lists) (bag : List (ℕ × ℕ)) → queued width lists t ≡ empty → AreDead t bag → all_queued width lists bag t ≡ empty
+pub all_queued-dead : (t : List (Option ℕ)) (width : ℕ) (lists : EntryLists) (bag : List (ℕ × ℕ)) → queued width lists t ≡ empty → AreDead t bag → all_queued width lists bag t ≡ empty
 all_queued-dead t width lists bag none dead = empty_from_nothing (all_queued width lists bag t) (λ q x e.
     let had = all_has width lists bag t q x e in
     elim had.1 as (λ _. ⊥) [
@@ -461,11 +461,11 @@ all_queued-dead t width lists bag none dead = empty_from_nothing (all_queued wid
       | inr c ↦ let bare : is_live t (q, x) ≡ false = dead (q, x) c in let yes : is_live t (q, x) ≡ true = has_live t (q, x) had.0 in let absurdity : ⊥ = cc in absurdity
     ])
 
-pub all_queued-empty : (t : List (Option ℕ)) (width : ℕ) (lists : Lists) (bag : List (ℕ × ℕ)) → queued width lists t ≡ empty → bag ≡ [] → all_queued width lists bag t ≡ empty
+pub all_queued-empty : (t : List (Option ℕ)) (width : ℕ) (lists : EntryLists) (bag : List (ℕ × ℕ)) → queued width lists t ≡ empty → bag ≡ [] → all_queued width lists bag t ≡ empty
 all_queued-empty t width lists bag none bare = all_queued-dead t width lists bag none (λ e c. absurd (Contains-none e (subst (λ (l : List (ℕ × ℕ)). Contains l e) bare c)))
 
 -- what is queued in the lists decides, beside the bag
-pub all_queued-same : (t : List (Option ℕ)) (width : ℕ) (lists new : Lists) (bag : List (ℕ × ℕ)) → queued width new t ≡ queued width lists t → all_queued width new bag t ≡ all_queued width lists bag t
+pub all_queued-same : (t : List (Option ℕ)) (width : ℕ) (lists new : EntryLists) (bag : List (ℕ × ℕ)) → queued width new t ≡ queued width lists t → all_queued width new bag t ≡ all_queued width lists bag t
 all_queued-same t width lists new bag same = same_entries _ _ (λ q. same_option _ _
     (λ x e.
     let had = all_has width new bag t q x e in
@@ -520,12 +520,12 @@ pub is_at_most-live : (t : List (Option ℕ)) (e : ℕ × ℕ) → is_live t e �
 is_at_most-live t e live = of_at_most e.1 (value_at t e.0) e.1 (live_has t e live) (omega arith)
 
 -- ---- a taking from the lists is one from all
-pub TakesAny-near : (t t' : List (Option ℕ)) (width width' bound : ℕ) (lists new : Lists) (bag bag' : List (ℕ × ℕ)) → AreKept t width bound lists bag → (b : ℕ) (nodes : List ℕ) → width' ≡ width → t' ≡ t → bag' ≡ bag → TakesAny width (queued width lists t) b nodes (queued width' new t') → TakesAny width (all_queued width lists bag t) b nodes (all_queued width' new bag' t')
+pub TakesAny-near : (t t' : List (Option ℕ)) (width width' bound : ℕ) (lists new : EntryLists) (bag bag' : List (ℕ × ℕ)) → AreEntriesKept t width bound lists bag → (b : ℕ) (nodes : List ℕ) → width' ≡ width → t' ≡ t → bag' ≡ bag → TakesAny width (queued width lists t) b nodes (queued width' new t') → TakesAny width (all_queued width lists bag t) b nodes (all_queued width' new bag' t')
 TakesAny-near t t' width width' bound lists new bag bag' kept b nodes same_width same_t same_bag takes =
     let near : TakesAny width (queued width lists t) b nodes (queued width new t) = subst (λ (w : ℕ). TakesAny width (queued width lists t) b nodes (queued w new t)) same_width (subst (λ (v : List (Option ℕ)). TakesAny width (queued width lists t) b nodes (queued width' new v)) same_t takes) in
     rw (same_width, same_t, same_bag) (TakesAny-all t width bound lists bag kept new b nodes near)
 
-pub all_queued-near : (t t' : List (Option ℕ)) (width width' : ℕ) (lists new : Lists) (bag bag' : List (ℕ × ℕ)) → width' ≡ width → t' ≡ t → bag' ≡ bag → queued width' new t' ≡ queued width lists t → all_queued width' new bag' t' ≡ all_queued width lists bag t
+pub all_queued-near : (t t' : List (Option ℕ)) (width width' : ℕ) (lists new : EntryLists) (bag bag' : List (ℕ × ℕ)) → width' ≡ width → t' ≡ t → bag' ≡ bag → queued width' new t' ≡ queued width lists t → all_queued width' new bag' t' ≡ all_queued width lists bag t
 all_queued-near t t' width width' lists new bag bag' same_width same_t same_bag same =
     let near : queued width new t ≡ queued width lists t = subst (λ (w : ℕ). queued w new t ≡ queued width lists t) same_width (subst (λ (v : List (Option ℕ)). queued width' new v ≡ queued width lists t) same_t same) in
     rw (same_width, same_t, same_bag) (all_queued-same t width lists new bag near)

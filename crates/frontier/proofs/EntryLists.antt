@@ -10,32 +10,32 @@ use Rattle.std.proofs.lemmas.List.Elements.{Contains-push_cases}
 use Rattle.std.proofs.lemmas.List.Sums.{sum_by-set}
 use Rattle.std.proofs.lemmas.Option.{slice_get-get_or, slice_get_past}
 use Rattle.buckets.specs.Places.{place_bit}
-use Rattle.buckets.specs.Rings.{IsWithin}
+use Rattle.buckets.specs.Rings.{IsBucketWithin}
 use Rattle.buckets.proofs.Ringed.{slice_get-set_same, slice_get-set_other, mod_apart}
-use Rattle.frontier.specs.Entries.{Lists, entries_at, entry_count, AreInPlace, AreMarked, IsAdded, IsInPlace, TakesFirst}
+use Rattle.frontier.specs.Entries.{EntryLists, entries_at, entry_count, AreInPlace, AreMarked, IsAdded, IsInPlace, TakesFirst}
 
 -- ---- lists
 
 some_items : Option (Vec (ℕ × ℕ)) → List (ℕ × ℕ)
 some_items o = option_map_or (λ (l : Vec (ℕ × ℕ)). l.items) o []
 
-pub entries_at-set_same : (lists : Lists) (p : ℕ) (v : Vec (ℕ × ℕ)) → p < length lists → entries_at (set lists p v) p ≡ v.items
+pub entries_at-set_same : (lists : EntryLists) (p : ℕ) (v : Vec (ℕ × ℕ)) → p < length lists → entries_at (set lists p v) p ≡ v.items
 unfolding some_items
 entries_at-set_same lists p v lt = ap some_items (slice_get-set_same lists p v lt)
 
-pub entries_at-set_other : (lists : Lists) (p q : ℕ) (v : Vec (ℕ × ℕ)) → q ≢ p → entries_at (set lists p v) q ≡ entries_at lists q
+pub entries_at-set_other : (lists : EntryLists) (p q : ℕ) (v : Vec (ℕ × ℕ)) → q ≢ p → entries_at (set lists p v) q ≡ entries_at lists q
 unfolding some_items
 entries_at-set_other lists p q v ne = ap some_items (slice_get-set_other lists p q v ne)
 
-pub entries_at-past : (lists : Lists) (p : ℕ) → length lists ≤ p → entries_at lists p ≡ []
+pub entries_at-past : (lists : EntryLists) (p : ℕ) → length lists ≤ p → entries_at lists p ≡ []
 unfolding some_items
 entries_at-past lists p past = ap some_items (slice_get_past lists p past)
 
-pub entries_at-get_or : (lists : Lists) (p : ℕ) (d : Vec (ℕ × ℕ)) → p < length lists → entries_at lists p ≡ (get_or lists p d).items
+pub entries_at-get_or : (lists : EntryLists) (p : ℕ) (d : Vec (ℕ × ℕ)) → p < length lists → entries_at lists p ≡ (get_or lists p d).items
 unfolding some_items
 entries_at-get_or lists p d lt = ap some_items (slice_get-get_or lists p d lt)
 
-pub place_within : (lists : Lists) (p : ℕ) → 0 < length (entries_at lists p) → p < length lists
+pub place_within : (lists : EntryLists) (p : ℕ) → 0 < length (entries_at lists p) → p < length lists
 place_within lists p some = elim (cases_lt p (length lists)) as (λ _. p < length lists) [
   | inl lt ↦ lt
   | inr past ↦ absurd (let none : length (entries_at lists p) ≡ 0 = ap (λ (l : List (ℕ × ℕ)). length l) (entries_at-past lists p past) in let absurdity : ⊥ = omega arith in absurdity)
@@ -52,7 +52,7 @@ pub Contains-none : {X : Type 0} (x : X) → Contains [] x → ⊥
 Contains-none x (k, lt, e) = absurd (omega arith)
 
 -- ---- an entry is added
-module _ (width last : ℕ) (old new : Lists) (p : ℕ) (e : ℕ × ℕ) (added : IsAdded old new p e) where
+module _ (width last : ℕ) (old new : EntryLists) (p : ℕ) (e : ℕ × ℕ) (added : IsAdded old new p e) where
   -- it is in its list, with all that was there
   pub member_added : (q : ℕ) (f : ℕ × ℕ) → Contains (entries_at new q) f → Contains (entries_at old q) f ⊎ ((q ≡ p) × (e ≡ f))
   member_added q f c = elim (cases_eq q p) as (λ _. Contains (entries_at old q) f ⊎ ((q ≡ p) × (e ≡ f))) [
@@ -87,10 +87,10 @@ module _ (width last : ℕ) (old new : Lists) (p : ℕ) (e : ℕ × ℕ) (added 
   }
 
 -- ---- nothing was added
-pub AreInPlace-same : (width last : ℕ) (old new : Lists) → ((p : ℕ) → entries_at new p ≡ entries_at old p) → length new ≡ length old → AreInPlace width last old → AreInPlace width last new
+pub AreInPlace-same : (width last : ℕ) (old new : EntryLists) → ((p : ℕ) → entries_at new p ≡ entries_at old p) → length new ≡ length old → AreInPlace width last old → AreInPlace width last new
 AreInPlace-same width last old new same size was q f c = subst (λ n. IsInPlace width last n q f.1) (sym size) (was q f (subst (λ (l : List (ℕ × ℕ)). Contains l f) (same q) c))
 
-pub AreMarked-same : (old new : Lists) (marks : List ℕ) → ((p : ℕ) → entries_at new p ≡ entries_at old p) → length new ≡ length old → AreMarked old marks → AreMarked new marks
+pub AreMarked-same : (old new : EntryLists) (marks : List ℕ) → ((p : ℕ) → entries_at new p ≡ entries_at old p) → length new ≡ length old → AreMarked old marks → AreMarked new marks
 AreMarked-same old new marks same size was = record {
   covers = omega (arith, was.covers);
   marked = λ q.
@@ -98,10 +98,10 @@ AreMarked-same old new marks same size was = record {
       (λ is. omega (arith, long, (was.marked q).0 is), λ some. (was.marked q).1 (omega arith));
 }
 
-pub AreInPlace-none : (width last : ℕ) (lists : Lists) → ((p : ℕ) → entries_at lists p ≡ []) → AreInPlace width last lists
+pub AreInPlace-none : (width last : ℕ) (lists : EntryLists) → ((p : ℕ) → entries_at lists p ≡ []) → AreInPlace width last lists
 AreInPlace-none width last lists none q f c = absurd (Contains-none f (subst (λ (l : List (ℕ × ℕ)). Contains l f) (none q) c))
 
-pub AreMarked-none : (lists : Lists) (marks : List ℕ) → ((p : ℕ) → entries_at lists p ≡ []) → length lists ≤ 64 * length marks → ((k : ℕ) → place_bit marks k ≡ 0) → AreMarked lists marks
+pub AreMarked-none : (lists : EntryLists) (marks : List ℕ) → ((p : ℕ) → entries_at lists p ≡ []) → length lists ≤ 64 * length marks → ((k : ℕ) → place_bit marks k ≡ 0) → AreMarked lists marks
 AreMarked-none lists marks none covers off = record {
   covers = covers;
   marked = λ q.
@@ -119,10 +119,10 @@ pub record IsFound (width last size : ℕ) (marks : List ℕ) : Type 0 where
   pub small : bucket < 2 ^ 64
   pub on : place_bit marks (bucket % size) ≡ 1
 
-pub marked_within : (lists : Lists) (marks : List ℕ) → AreMarked lists marks → (p : ℕ) → place_bit marks p ≡ 1 → p < length lists
+pub marked_within : (lists : EntryLists) (marks : List ℕ) → AreMarked lists marks → (p : ℕ) → place_bit marks p ≡ 1 → p < length lists
 marked_within lists marks full p on = place_within lists p ((full.marked p).0 on)
 
-pub found : (width last : ℕ) (lists : Lists) (marks : List ℕ) → AreMarked lists marks → AreInPlace width last lists → (p : ℕ) → place_bit marks p ≡ 1 → IsFound width last (length lists) marks
+pub found : (width last : ℕ) (lists : EntryLists) (marks : List ℕ) → AreMarked lists marks → AreInPlace width last lists → (p : ℕ) → place_bit marks p ≡ 1 → IsFound width last (length lists) marks
 found width last lists marks full within p on =
     let e = first_entry (entries_at lists p) ((full.marked p).0 on) in
     let is = within p e.0 e.1 in
@@ -135,7 +135,7 @@ found width last lists marks full within p on =
       on = ap (place_bit marks) is.place ∙ on;
     }
 
-module _ (width last : ℕ) (lists : Lists) (marks : List ℕ) (full : AreMarked lists marks) (within : AreInPlace width last lists) (b : ℕ) (far : last ≤ b) (between : (c : ℕ) → last ≤ c → c < b → c < last + length lists → place_bit marks (c % length lists) ≡ 0) where
+module _ (width last : ℕ) (lists : EntryLists) (marks : List ℕ) (full : AreMarked lists marks) (within : AreInPlace width last lists) (b : ℕ) (far : last ≤ b) (between : (c : ℕ) → last ≤ c → c < b → c < last + length lists → place_bit marks (c % length lists) ≡ 0) where
   pub least_entry : (p : ℕ) (e : ℕ × ℕ) → Contains (entries_at lists p) e → b ≤ e.1 / width
   least_entry p e c =
       let is = within p e c in
@@ -190,7 +190,7 @@ module _ (width last : ℕ) (lists : Lists) (marks : List ℕ) (full : AreMarked
               (record { small = is.small; window = (least_entry q e there, omega arith); place = is.place })
         ]
       where
-        length-set_it : (xs : Lists) (i : ℕ) (v : Vec (ℕ × ℕ)) → length (set xs i v) ≡ length xs
+        length-set_it : (xs : EntryLists) (i : ℕ) (v : Vec (ℕ × ℕ)) → length (set xs i v) ≡ length xs
         length-set_it [] i v = refl
         length-set_it (x ∷ xs) zero v = refl
         length-set_it (x ∷ xs) (suc i) v = ap (λ n. suc n) (length-set_it xs i v)

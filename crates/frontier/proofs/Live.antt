@@ -15,7 +15,7 @@ use Rattle.buckets.specs.Queue.{Entries, bucket, outside, is_in_bucket}
 use Rattle.buckets.proofs.Ringed.{mod_apart}
 use Rattle.buckets.proofs.Tables.{tied, same_entries, get-insert_same, get-insert_other}
 use Rattle.buckets.proofs.Taken.{get_kept, has_node-bucket, left_outside, value_in, without-bucket, empty_from_nothing}
-use Rattle.frontier.specs.Entries.{Lists, entries_at, AreInPlace, IsAdded, TakesFirst}
+use Rattle.frontier.specs.Entries.{EntryLists, entries_at, AreInPlace, IsAdded, TakesFirst}
 use Rattle.frontier.specs.Frontier.{TakesAny}
 use Rattle.frontier.specs.Live.{AreEntriesOf, are_once, is_at_most, is_live, is_queued, is_same, live_nodes, queued, values_from, values_of}
 use Rattle.frontier.proofs.EntryLists.{Contains-none, member_added}
@@ -86,10 +86,10 @@ get-values_of t q = get-from_entries nat_cmp_total (values_from 0 t) q ∙ find-
 
 -- ---- what is queued
 
-get-queued : (width : ℕ) (lists : Lists) (t : List (Option ℕ)) (q : ℕ) → get (queued width lists t) q ≡ cond (is_queued width lists t q) (value_at t q) None
+get-queued : (width : ℕ) (lists : EntryLists) (t : List (Option ℕ)) (q : ℕ) → get (queued width lists t) q ≡ cond (is_queued width lists t q) (value_at t q) None
 get-queued width lists t q = get_kept (values_of t) (is_queued width lists t) q ∙ ap (λ o. cond (is_queued width lists t q) o None) (get-values_of t q)
 
-module _ (width : ℕ) (lists : Lists) (q : ℕ) where
+module _ (width : ℕ) (lists : EntryLists) (q : ℕ) where
   abbrev list_for : ℕ → List (ℕ × ℕ)
   list_for x = entries_at lists ((x / width) % length lists)
 
@@ -104,10 +104,10 @@ module _ (width : ℕ) (lists : Lists) (q : ℕ) where
         | false ↦ λ _ wrong. absurd (let absurdity : ⊥ = cc in absurdity)
       ] refl e
 
-pub queued_has : (width : ℕ) (lists : Lists) (t : List (Option ℕ)) (q x : ℕ) → get (queued width lists t) q ≡ Some x → (value_at t q ≡ Some x) × Contains (entries_at lists ((x / width) % length lists)) (q, x)
+pub queued_has : (width : ℕ) (lists : EntryLists) (t : List (Option ℕ)) (q x : ℕ) → get (queued width lists t) q ≡ Some x → (value_at t q ≡ Some x) × Contains (entries_at lists ((x / width) % length lists)) (q, x)
 queued_has width lists t q x e = told width lists q (value_at t q) x (sym (get-queued width lists t q) ∙ e)
 
-pub queued_get : (width : ℕ) (lists : Lists) (t : List (Option ℕ)) (q x : ℕ) → value_at t q ≡ Some x → Contains (entries_at lists ((x / width) % length lists)) (q, x) → get (queued width lists t) q ≡ Some x
+pub queued_get : (width : ℕ) (lists : EntryLists) (t : List (Option ℕ)) (q x : ℕ) → value_at t q ≡ Some x → Contains (entries_at lists ((x / width) % length lists)) (q, x) → get (queued width lists t) q ≡ Some x
 queued_get width lists t q x has c =
     get-queued width lists t q
     ∙ (ap (λ o. cond (stands width lists q o) o None) has
@@ -211,21 +211,21 @@ pub of_at_most : (v : ℕ) (o : Option ℕ) (x : ℕ) → o ≡ Some x → x ≤
 of_at_most v o x is le = ap (λ p. option_map_or (λ x. nat_le x v) p false) is ∙ le-leb x v le
 
 -- ---- nothing is lowered, or there is nothing
-pub AreEntriesOf-same : (t : List (Option ℕ)) (old new : Lists) → ((p : ℕ) → entries_at new p ≡ entries_at old p) → AreEntriesOf t old → AreEntriesOf t new
+pub AreEntriesOf-same : (t : List (Option ℕ)) (old new : EntryLists) → ((p : ℕ) → entries_at new p ≡ entries_at old p) → AreEntriesOf t old → AreEntriesOf t new
 AreEntriesOf-same t old new same was = record {
   node = λ p e c. was.node p e (subst (λ (l : List (ℕ × ℕ)). Contains l e) (same p) c);
   above = λ p e c. was.above p e (subst (λ (l : List (ℕ × ℕ)). Contains l e) (same p) c);
   once = λ p. ap are_once (same p) ∙ was.once p;
 }
 
-pub AreEntriesOf-none : (t : List (Option ℕ)) (lists : Lists) → ((p : ℕ) → entries_at lists p ≡ []) → AreEntriesOf t lists
+pub AreEntriesOf-none : (t : List (Option ℕ)) (lists : EntryLists) → ((p : ℕ) → entries_at lists p ≡ []) → AreEntriesOf t lists
 AreEntriesOf-none t lists none = record {
   node = λ p e c. absurd (Contains-none e (subst (λ (l : List (ℕ × ℕ)). Contains l e) (none p) c));
   above = λ p e c. absurd (Contains-none e (subst (λ (l : List (ℕ × ℕ)). Contains l e) (none p) c));
   once = λ p. ap are_once (none p);
 }
 
-pub queued-none : (width : ℕ) (t : List (Option ℕ)) (lists : Lists) → ((p : ℕ) → entries_at lists p ≡ []) → queued width lists t ≡ empty
+pub queued-none : (width : ℕ) (t : List (Option ℕ)) (lists : EntryLists) → ((p : ℕ) → entries_at lists p ≡ []) → queued width lists t ≡ empty
 queued-none width t lists none = empty_from_nothing (queued width lists t) (λ q x e. Contains-none (q, x) (subst (λ (l : List (ℕ × ℕ)). Contains l (q, x)) (none ((x / width) % length lists)) (queued_has width lists t q x e).1))
 
 value_within : (t : List (Option ℕ)) (u x : ℕ) → value_at t u ≡ Some x → u < length t
@@ -235,7 +235,7 @@ value_within t u x has = elim (cases_lt u (length t)) as (λ _. u < length t) [
 ]
 
 -- the nodes of entries have places
-pub entry_nodes : (t : List (Option ℕ)) (lists : Lists) → AreEntriesOf t lists → (p : ℕ) (e : ℕ × ℕ) → Contains (entries_at lists p) e → (1 ≤ e.0) × (e.0 < length t)
+pub entry_nodes : (t : List (Option ℕ)) (lists : EntryLists) → AreEntriesOf t lists → (p : ℕ) (e : ℕ × ℕ) → Contains (entries_at lists p) e → (1 ≤ e.0) × (e.0 < length t)
 entry_nodes t lists was p e c =
     let had = at_most_of e.1 (value_at t e.0) (was.above p e c) in
     (was.node p e c, value_within t e.0 had.0 had.1)
@@ -275,7 +275,7 @@ module _ (width b : ℕ) (m : Entries) where
       ] refl got))
 
 -- ---- a list is taken
-module _ (width last b : ℕ) (old new : Lists) (t : List (Option ℕ)) (entries : List (ℕ × ℕ)) (size : length new ≡ length old) (within : AreInPlace width last old) (was : AreEntriesOf t old) (far : last ≤ b) (takes : TakesFirst width old new b entries) where
+module _ (width last b : ℕ) (old new : EntryLists) (t : List (Option ℕ)) (entries : List (ℕ × ℕ)) (size : length new ≡ length old) (within : AreInPlace width last old) (was : AreEntriesOf t old) (far : last ≤ b) (takes : TakesFirst width old new b entries) where
   -- all but the taken ones stay
   pub stays : (p : ℕ) (e : ℕ × ℕ) → Contains (entries_at new p) e → Contains (entries_at old p) e × (p ≢ b % length old)
   stays p e c = elim (cases_eq p (b % length old)) as (λ _. Contains (entries_at old p) e × (p ≢ b % length old)) [

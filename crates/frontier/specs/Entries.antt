@@ -10,35 +10,35 @@ use Rattle.std.specs.Option.{option_map_or}
 use Rattle.std.specs.List.{slice_get}
 use Rattle.std.specs.Global.{Vec}
 use Rattle.buckets.specs.Places.{place_bit}
-use Rattle.buckets.specs.Rings.{IsWithin}
+use Rattle.buckets.specs.Rings.{IsBucketWithin}
 
-abbrev pub Lists : Type 0
-Lists = List (Vec (ℕ × ℕ))
+abbrev pub EntryLists : Type 0
+EntryLists = List (Vec (ℕ × ℕ))
 
-abbrev pub entries_at : Lists → ℕ → List (ℕ × ℕ)
+abbrev pub entries_at : EntryLists → ℕ → List (ℕ × ℕ)
 entries_at lists p = option_map_or (λ (entries : Vec (ℕ × ℕ)). entries.items) (slice_get lists p) []
 
 pub record IsInPlace (width last size p value : ℕ) : Type 0 where
   pub small : value < 2 ^ 64
-  pub window : IsWithin last size (value / width)
+  pub window : IsBucketWithin last size (value / width)
   pub place : (value / width) % size ≡ p
 
-abbrev pub AreInPlace : ℕ → ℕ → Lists → Type 0
+abbrev pub AreInPlace : ℕ → ℕ → EntryLists → Type 0
 AreInPlace width last lists = (p : ℕ) (e : ℕ × ℕ) → Contains (entries_at lists p) e → IsInPlace width last (length lists) p e.1
 
-pub record AreMarked (lists : Lists) (marks : List ℕ) : Type 0 where
+pub record AreMarked (lists : EntryLists) (marks : List ℕ) : Type 0 where
   pub covers : length lists ≤ 64 * length marks
   pub marked : (p : ℕ) → (place_bit marks p ≡ 1) ↔ (0 < length (entries_at lists p))
 
-pub record IsAdded (old new : Lists) (p : ℕ) (e : ℕ × ℕ) : Type 0 where
+pub record IsAdded (old new : EntryLists) (p : ℕ) (e : ℕ × ℕ) : Type 0 where
   pub here : entries_at new p ≡ entries_at old p ++ e ∷ []
   pub others : (q : ℕ) → q ≢ p → entries_at new q ≡ entries_at old q
 
 -- how many entries there are
-abbrev pub entry_count : Lists → ℕ
+abbrev pub entry_count : EntryLists → ℕ
 entry_count lists = sum_by (λ (entries : Vec (ℕ × ℕ)). length entries.items) lists
 
-pub record TakesFirst (width : ℕ) (old new : Lists) (b : ℕ) (list : List (ℕ × ℕ)) : Type 0 where
+pub record TakesFirst (width : ℕ) (old new : EntryLists) (b : ℕ) (list : List (ℕ × ℕ)) : Type 0 where
   pub some_entry : 0 < length list
   pub taken : list ≡ entries_at old (b % length old)
   pub emptied : entries_at new (b % length old) ≡ []
@@ -46,7 +46,7 @@ pub record TakesFirst (width : ℕ) (old new : Lists) (b : ℕ) (list : List (�
   pub within : (e : ℕ × ℕ) → Contains list e → e.1 / width ≡ b
   pub least : (p : ℕ) (e : ℕ × ℕ) → Contains (entries_at old p) e → b ≤ e.1 / width
 
-pub record IsFresh (delta last : ℕ) (lists : Lists) (width size : ℕ) : Type 0 where
+pub record IsFresh (delta last : ℕ) (lists : EntryLists) (width size : ℕ) : Type 0 where
   pub wide : delta ≡ width
   pub first : last ≡ 0
   pub enough : size ≤ length lists

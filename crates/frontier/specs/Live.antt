@@ -12,7 +12,7 @@ use Rattle.std.specs.List.{list_any, filter}
 use Rattle.std.specs.FinMap as finite
 use Rattle.relax.specs.Values.{value_at}
 use Rattle.buckets.specs.Queue.{Entries}
-use Rattle.frontier.specs.Entries.{Lists, entries_at}
+use Rattle.frontier.specs.Entries.{EntryLists, entries_at}
 
 abbrev pub is_live : List (Option ℕ) → ℕ × ℕ → Bool
 is_live tentative e = option_map_or (λ x. e.1 == x) (value_at tentative e.0) false
@@ -33,10 +33,10 @@ abbrev pub is_same : ℕ × ℕ → ℕ × ℕ → Bool
 is_same a b = (a.0 == b.0) && (a.1 == b.1)
 
 -- whether the node's tentative value stands as an entry in the list of its bucket
-abbrev pub is_queued : ℕ → Lists → List (Option ℕ) → ℕ → Bool
+abbrev pub is_queued : ℕ → EntryLists → List (Option ℕ) → ℕ → Bool
 is_queued width lists tentative u = option_map_or (λ x. list_any (is_same (u, x)) (entries_at lists ((x / width) % length lists))) (value_at tentative u) false
 
-abbrev pub queued : ℕ → Lists → List (Option ℕ) → Entries
+abbrev pub queued : ℕ → EntryLists → List (Option ℕ) → Entries
 queued width lists tentative = finite.retain_keys (values_of tentative) (is_queued width lists tentative)
 
 -- whether the entry's node has a tentative value, and that is not above the entry's
@@ -48,7 +48,7 @@ abbrev pub are_once : List (ℕ × ℕ) → Bool
 are_once [] = true
 are_once (e ∷ entries) = not (list_any (is_same e) entries) && are_once entries
 
-pub record AreEntriesOf (tentative : List (Option ℕ)) (lists : Lists) : Type 0 where
+pub record AreEntriesOf (tentative : List (Option ℕ)) (lists : EntryLists) : Type 0 where
   pub node : (p : ℕ) (e : ℕ × ℕ) → Contains (entries_at lists p) e → 1 ≤ e.0
   pub above : (p : ℕ) (e : ℕ × ℕ) → Contains (entries_at lists p) e → is_at_most tentative e ≡ true
   pub once : (p : ℕ) → are_once (entries_at lists p) ≡ true
@@ -59,7 +59,7 @@ pub record AreEntriesOf (tentative : List (Option ℕ)) (lists : Lists) : Type 0
 abbrev pub is_in_bag : List (ℕ × ℕ) → List (Option ℕ) → ℕ → Bool
 is_in_bag bag tentative u = option_map_or (λ x. list_any (is_same (u, x)) bag) (value_at tentative u) false
 
-abbrev pub all_queued : ℕ → Lists → List (ℕ × ℕ) → List (Option ℕ) → Entries
+abbrev pub all_queued : ℕ → EntryLists → List (ℕ × ℕ) → List (Option ℕ) → Entries
 all_queued width lists bag tentative = finite.retain_keys (values_of tentative) (λ u. is_queued width lists tentative u || is_in_bag bag tentative u)
 
 -- all of them have buckets from the bound on, and none is the greatest number there is
@@ -70,19 +70,19 @@ pub record IsBag (tentative : List (Option ℕ)) (width bound : ℕ) (bag : List
   pub small : (e : ℕ × ℕ) → Contains bag e → e.1 < 18446744073709551615
   pub once : are_once bag ≡ true
 
-pub record AreKept (tentative : List (Option ℕ)) (width bound : ℕ) (lists : Lists) (bag : List (ℕ × ℕ)) : Type 0 where
+pub record AreEntriesKept (tentative : List (Option ℕ)) (width bound : ℕ) (lists : EntryLists) (bag : List (ℕ × ℕ)) : Type 0 where
   pub stand : AreEntriesOf tentative lists
   pub below : (p : ℕ) (e : ℕ × ℕ) → Contains (entries_at lists p) e → e.1 / width < bound
   pub rest : IsBag tentative width bound bag
 
 -- the first k of these entries were dealt: those that are live stand in lists or in the bag, and nothing else does
-pub record AreDealt (tentative : List (Option ℕ)) (width : ℕ) (entries : List (ℕ × ℕ)) (k : ℕ) (lists : Lists) (bag : List (ℕ × ℕ)) : Type 0 where
+pub record AreEntriesDealt (tentative : List (Option ℕ)) (width : ℕ) (entries : List (ℕ × ℕ)) (k : ℕ) (lists : EntryLists) (bag : List (ℕ × ℕ)) : Type 0 where
   pub listed : (p : ℕ) (e : ℕ × ℕ) → Contains (entries_at lists p) e → Contains (take k entries) e
   pub bagged : (e : ℕ × ℕ) → Contains bag e → Contains (take k entries) e
   pub each : (e : ℕ × ℕ) → Contains (take k entries) e → is_live tentative e ≡ true → Contains (entries_at lists ((e.1 / width) % length lists)) e ⊎ Contains bag e
 
 -- an entry was dealt: where it is live, to its list or to the bag, and nothing else changed
-pub record IsDealt (tentative : List (Option ℕ)) (width : ℕ) (e : ℕ × ℕ) (lists : Lists) (bag : List (ℕ × ℕ)) (lists' : Lists) (bag' : List (ℕ × ℕ)) : Type 0 where
+pub record IsDealt (tentative : List (Option ℕ)) (width : ℕ) (e : ℕ × ℕ) (lists : EntryLists) (bag : List (ℕ × ℕ)) (lists' : EntryLists) (bag' : List (ℕ × ℕ)) : Type 0 where
   pub size : length lists' ≡ length lists
   pub listed : (p : ℕ) (f : ℕ × ℕ) → Contains (entries_at lists' p) f → Contains (entries_at lists p) f ⊎ (e ≡ f)
   pub bagged : (f : ℕ × ℕ) → Contains bag' f → Contains bag f ⊎ (e ≡ f)
@@ -104,11 +104,11 @@ abbrev pub IsLeastOf : List (Option ℕ) → List (ℕ × ℕ) → Option ℕ �
 IsLeastOf tentative entries least = MatchOption least (AreDead tentative entries) (IsLeastLive tentative entries)
 
 -- the entry stands nowhere
-abbrev pub IsNowhere : Lists → List (ℕ × ℕ) → ℕ × ℕ → Type 0
+abbrev pub IsNowhere : EntryLists → List (ℕ × ℕ) → ℕ × ℕ → Type 0
 IsNowhere lists bag e = ((p : ℕ) → Contains (entries_at lists p) e → ⊥) × (Contains bag e → ⊥)
 
 -- the entry can be added: it is that of a node, not below the node's value, and stands nowhere
-pub record CanStand (tentative : List (Option ℕ)) (lists : Lists) (bag : List (ℕ × ℕ)) (e : ℕ × ℕ) : Type 0 where
+pub record CanStand (tentative : List (Option ℕ)) (lists : EntryLists) (bag : List (ℕ × ℕ)) (e : ℕ × ℕ) : Type 0 where
   pub node : 1 ≤ e.0
   pub above : is_at_most tentative e ≡ true
   pub nowhere : IsNowhere lists bag e

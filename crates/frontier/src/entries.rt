@@ -1,7 +1,7 @@
 //! Entries in a ring of lists, by the buckets of their values.
 
 ghost use Rattle.std.specs.Prelude.{◌≡◌, ◌≢◌, ℕ, ◌<◌, ◌≤◌, ◌+◌, ◌-◌, ◌/◌, ◌%◌, [], min, set, OnOk, OnErr, IfOk, MatchOption, length};
-ghost use Rattle.buckets.specs.Rings.{IsWithin};
+ghost use Rattle.buckets.specs.Rings.{IsBucketWithin};
 ghost use Rattle.std.specs.Bool.{OnTrue};
 ghost use Rattle.frontier.specs.Entries.{AreInPlace, AreMarked, IsAdded, IsFresh, TakesFirst, entries_at, entry_count};
 
@@ -178,7 +178,7 @@ impl EntryRing {
     /// The place of the list of a value that fits.
     #[inline(always)]
     fn place(&self, value: u64) -> usize
-        requires { IsWithin self.now.last (length self.now.lists.items) (value / self.now.delta) }
+        requires { IsBucketWithin self.now.last (length self.now.lists.items) (value / self.now.delta) }
         ensures { result ≡ (value / self.now.delta) % length self.now.lists.items }
     {
         let ahead = self.ahead(value) as usize;
@@ -190,7 +190,7 @@ impl EntryRing {
     /// Adds an entry, in amortized O(1). If memory runs out, the entries are as they were.
     #[inline(always)]
     pub fn add(&mut self, node: u32, value: u64) -> Result<(), AllocError>
-        requires fits { IsWithin self.old.last (length self.old.lists.items) (value / self.old.delta) }
+        requires fits { IsBucketWithin self.old.last (length self.old.lists.items) (value / self.old.delta) }
         ensures ok { OnOk result (IsAdded self.old.lists.items self.new.lists.items ((value / self.old.delta) % length self.old.lists.items) (node, value)) }
         ensures err { OnErr result ((p : ℕ) → entries_at self.new.lists.items p ≡ entries_at self.old.lists.items p) }
         ensures size { length self.new.lists.items ≡ length self.old.lists.items }

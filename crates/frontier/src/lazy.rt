@@ -5,7 +5,7 @@ ghost use Rattle.std.specs.FinMap as map;
 ghost use Rattle.frontier.specs.Entries.{IsFresh, entries_at, entry_count};
 ghost use Rattle.frontier.specs.Frontier.{TakesAny};
 ghost use Rattle.relax.specs.Values.{value_at};
-ghost use Rattle.frontier.specs.Live.{AreDealt, AreKept, CanStand, IsDealt, IsLeastOf, IsNowhere, all_queued, are_once, is_live, live_nodes, queued};
+ghost use Rattle.frontier.specs.Live.{AreEntriesDealt, AreEntriesKept, CanStand, IsDealt, IsLeastOf, IsNowhere, all_queued, are_once, is_live, live_nodes, queued};
 
 use crate::entries::EntryRing;
 use crate::frontier::Frontier;
@@ -28,7 +28,7 @@ pub struct LazyRing {
     pub(crate) bag: Vec<(u32, u64)>,
     bound: u64,
     ghost none: { taken.items ≡ [] },
-    ghost kept: { AreKept tentative ring.delta bound ring.lists.items bag.items },
+    ghost kept: { AreEntriesKept tentative ring.delta bound ring.lists.items bag.items },
     ghost room: { bound ≤ ring.last + length ring.lists.items },
 }
 
@@ -112,7 +112,7 @@ fn put(
     requires from { ring.old.last ≤ value / ring.old.delta }
     requires room { bound ≤ ring.old.last + length ring.old.lists.items }
     requires small { value < u64.MAX }
-    ensures kept { (tentative : List (Option ℕ)) → AreKept tentative ring.old.delta bound ring.old.lists.items bag.old.items → CanStand tentative ring.old.lists.items bag.old.items (node, value) → AreKept tentative ring.old.delta bound ring.new.lists.items bag.new.items }
+    ensures kept { (tentative : List (Option ℕ)) → AreEntriesKept tentative ring.old.delta bound ring.old.lists.items bag.old.items → CanStand tentative ring.old.lists.items bag.old.items (node, value) → AreEntriesKept tentative ring.old.delta bound ring.new.lists.items bag.new.items }
     ensures dealt { OnOk result ((tentative : List (Option ℕ)) → IsDealt tentative ring.old.delta (node, value) ring.old.lists.items bag.old.items ring.new.lists.items bag.new.items) }
     ensures err { OnErr result (((p : ℕ) → entries_at ring.new.lists.items p ≡ entries_at ring.old.lists.items p) × (bag.new.items ≡ bag.old.items)) }
     ensures width { ring.new.delta ≡ ring.old.delta }
@@ -140,8 +140,8 @@ fn deal_one(
     requires room { bound ≤ ring.old.last + length ring.old.lists.items }
     requires small { value < u64.MAX }
     requires lone { IsNowhere ring.old.lists.items bag.old.items (node, value) }
-    requires kept { AreKept tentative.now ring.old.delta bound ring.old.lists.items bag.old.items }
-    ensures kept { AreKept tentative.now ring.old.delta bound ring.new.lists.items bag.new.items }
+    requires kept { AreEntriesKept tentative.now ring.old.delta bound ring.old.lists.items bag.old.items }
+    ensures kept { AreEntriesKept tentative.now ring.old.delta bound ring.new.lists.items bag.new.items }
     ensures dealt { OnOk result (IsDealt tentative.now ring.old.delta (node, value) ring.old.lists.items bag.old.items ring.new.lists.items bag.new.items) }
     ensures width { ring.new.delta ≡ ring.old.delta }
     ensures last { ring.new.last ≡ ring.old.last }
@@ -169,8 +169,8 @@ fn deal_all(
     requires once { are_once entries.now ≡ true }
     requires none { (p : ℕ) → entries_at ring.old.lists.items p ≡ [] }
     requires empty { bag.old.items ≡ [] }
-    ensures kept { AreKept tentative.now ring.new.delta bound ring.new.lists.items bag.new.items }
-    ensures dealt { OnOk result (AreDealt tentative.now ring.new.delta entries.now (length entries.now) ring.new.lists.items bag.new.items) }
+    ensures kept { AreEntriesKept tentative.now ring.new.delta bound ring.new.lists.items bag.new.items }
+    ensures dealt { OnOk result (AreEntriesDealt tentative.now ring.new.delta entries.now (length entries.now) ring.new.lists.items bag.new.items) }
     ensures width { ring.new.delta ≡ ring.old.delta }
     ensures last { ring.new.last ≡ ring.old.last }
     ensures size { length ring.new.lists.items ≡ length ring.old.lists.items }
@@ -192,11 +192,11 @@ fn deal(
     bound: &mut u64,
 ) -> Result<(), AllocError>
     requires spare { spare.old.items ≡ [] }
-    requires kept { AreKept tentative.now ring.old.delta bound.old ring.old.lists.items bag.old.items }
+    requires kept { AreEntriesKept tentative.now ring.old.delta bound.old ring.old.lists.items bag.old.items }
     requires room { bound.old ≤ ring.old.last + length ring.old.lists.items }
     requires none { queued ring.old.delta ring.old.lists.items tentative.now ≡ map.empty }
     ensures spare { spare.new.items ≡ [] }
-    ensures kept { AreKept tentative.now ring.new.delta bound.new ring.new.lists.items bag.new.items }
+    ensures kept { AreEntriesKept tentative.now ring.new.delta bound.new ring.new.lists.items bag.new.items }
     ensures room { bound.new ≤ ring.new.last + length ring.new.lists.items }
     ensures same { OnOk result (all_queued ring.new.delta ring.new.lists.items bag.new.items tentative.now ≡ all_queued ring.old.delta ring.old.lists.items bag.old.items tentative.now) }
     ensures some { OnOk result (queued ring.new.delta ring.new.lists.items tentative.now ≡ map.empty → all_queued ring.new.delta ring.new.lists.items bag.new.items tentative.now ≡ map.empty) }

@@ -7,7 +7,7 @@ use prog.Atomic.{either}
 use Rattle.logbook.specs.Pages.{Cell, cell, gives, adds, Nib, no_nib, may_make, may_write, Moves}
 use Rattle.history.specs.declared.entries.Link.{Link}
 use Rattle.history.specs.Chains.{pen_of}
-use Rattle.history.specs.Rules.{IsHome, IsKept, WritesBehind}
+use Rattle.history.specs.Rules.{IsHome, IsLogKept, WritesBehind}
 
 abbrev pub shown : List Link → List Link
 shown log = []
@@ -57,7 +57,7 @@ apart_of cs key away k h same = true≢false (sym h.1 ∙ (ap (λ (n : ℕ). (ce
 
 -- who has a pen writes its entry, whatever the book is
 pub writes_moves : (v : List Link) (l : Link) (p : Nib) → p.right ≡ may_write → pen_of l ≡ p.key
-    → Moves IsKept shown moved 0 (v, (p, None)) (λ n. either (n == 0) 0 n) (λ found after. WritesBehind v l after.0)
+    → Moves IsLogKept shown moved 0 (v, (p, None)) (λ n. either (n == 0) 0 n) (λ found after. WritesBehind v l after.0)
 writes_moves v l p right same cs log kept pre away =
     let gone = away right in
     let set : List Cell = slice_set cs 0 (either ((cell cs 0).0 == 0) 0 (cell cs 0).0, true) in
@@ -91,7 +91,7 @@ writes_moves v l p right same cs log kept pre away =
 
 -- a pen can be made at any time
 pub makes_moves : (v : List Link)
-    → Moves IsKept shown moved 0 (v, (no_nib, None)) (λ n. either (n == 0) 0 n) (λ found after. after.1.0.right ≡ may_make)
+    → Moves IsLogKept shown moved 0 (v, (no_nib, None)) (λ n. either (n == 0) 0 n) (λ found after. after.1.0.right ≡ may_make)
 makes_moves v cs log kept pre away =
     let set : List Cell = slice_set cs 0 (either ((cell cs 0).0 == 0) 0 (cell cs 0).0, true) in
     let still : (k : ℕ) → IsHome cs k → IsHome (set ++ (0, false) ∷ []) k =

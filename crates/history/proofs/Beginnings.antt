@@ -6,8 +6,8 @@ use Rattle.std.proofs.lemmas.List.{append-nil}
 use mathlib.Core.List.{IsPrefix}
 use Rattle.history.specs.declared.entries.Entry.{Entry}
 use Rattle.history.specs.declared.entries.Entry.TheVariants.{Opened, Accepted, Acknowledged, Closed}
-use Rattle.history.specs.Entries.{accepted, acknowledged, is_endless, is_legal, IsBegun, IsOpen, IsClosed, origin_of, beginning}
-use Rattle.history.specs.Written.{counted, with_entry}
+use Rattle.history.specs.Entries.{accepted, acknowledged_number, is_endless, is_legal, IsBegun, IsDeskOpen, IsClosed, origin_of, beginning}
+use Rattle.history.specs.Written.{groups_counted, with_entry}
 use Rattle.history.specs.Origins.{Name, Beginning}
 use Rattle.history.specs.Claims.{EndsWith, IsAcknowledgedIn}
 use Rattle.machine.specs.declared.calls.Ticket.{Ticket}
@@ -54,22 +54,22 @@ accepted_both (Accepted c ∷ xs) ys = ap (λ cs. c.value ∷ cs) (accepted_both
 accepted_both (Acknowledged n ∷ xs) ys = accepted_both xs ys
 accepted_both (Closed ∷ xs) ys = accepted_both xs ys
 
-pub open_endless : (log : List Entry) → IsOpen log → is_endless log ≡ true
+pub open_endless : (log : List Entry) → IsDeskOpen log → is_endless log ≡ true
 open_endless log o = subst (λ (l : List Entry). is_endless l ≡ true) (sym o.log_is) o.endless
 
 -- what begins with more entries has more groups
 pub accepted_prefix : (xs ys : List Entry) → IsPrefix xs ys → IsPrefix (accepted xs) (accepted ys)
 accepted_prefix xs ys p = (accepted p.0, sym (accepted_both xs p.0) ∙ ap accepted p.1)
 
-pub acknowledged_both : (xs ys : List Entry) → acknowledged (xs ++ ys) ≡ max (acknowledged xs) (acknowledged ys)
+pub acknowledged_both : (xs ys : List Entry) → acknowledged_number (xs ++ ys) ≡ max (acknowledged_number xs) (acknowledged_number ys)
 acknowledged_both [] ys = omega arith
 acknowledged_both (Opened b ∷ xs) ys = acknowledged_both xs ys
 acknowledged_both (Accepted c ∷ xs) ys = acknowledged_both xs ys
 acknowledged_both (Acknowledged n ∷ xs) ys = omega (arith, acknowledged_both xs ys)
 acknowledged_both (Closed ∷ xs) ys = acknowledged_both xs ys
 
-pub acknowledged_prefix : (xs ys : List Entry) → IsPrefix xs ys → acknowledged xs ≤ acknowledged ys
-acknowledged_prefix xs ys p = omega (arith, acknowledged_both xs p.0, ap acknowledged p.1)
+pub acknowledged_prefix : (xs ys : List Entry) → IsPrefix xs ys → acknowledged_number xs ≤ acknowledged_number ys
+acknowledged_prefix xs ys p = omega (arith, acknowledged_both xs p.0, ap acknowledged_number p.1)
 
 legal_endless : (xs : List Entry) (e : Entry) → is_endless xs ≡ true → is_legal (xs ++ e ∷ []) ≡ true
 legal_endless [] (Opened b) h = refl
@@ -82,7 +82,7 @@ legal_endless (Acknowledged n ∷ xs) e h = legal_endless xs e h
 legal_endless (Closed ∷ xs) e h = absurd (true≢false (sym h))
 
 -- an entry may come behind an open log
-pub legal_more : (log : List Entry) (e : Entry) → IsOpen log → is_legal (log ++ e ∷ []) ≡ true
+pub legal_more : (log : List Entry) (e : Entry) → IsDeskOpen log → is_legal (log ++ e ∷ []) ≡ true
 legal_more log e o = subst (λ (l : List Entry). is_legal (l ++ e ∷ []) ≡ true) (sym o.log_is) (legal_endless o.rest e o.endless)
 
 -- nothing stands behind the end
@@ -108,38 +108,38 @@ endless_both (Accepted c ∷ xs) ys h k = endless_both xs ys h k
 endless_both (Acknowledged n ∷ xs) ys h k = endless_both xs ys h k
 endless_both (Closed ∷ xs) ys h k = absurd (true≢false (sym h))
 
-pub open_more : (log : List Entry) (e : Entry) → is_endless (e ∷ []) ≡ true → IsOpen log → IsOpen (log ++ e ∷ [])
+pub open_more : (log : List Entry) (e : Entry) → is_endless (e ∷ []) ≡ true → IsDeskOpen log → IsDeskOpen (log ++ e ∷ [])
 open_more log e h o =
     record { base = o.base; rest = o.rest ++ e ∷ []; log_is = ap (λ l. l ++ e ∷ []) o.log_is; endless = endless_both o.rest (e ∷ []) o.endless h }
 
-pub closed_end : (log : List Entry) → IsOpen log → IsClosed (log ++ Closed ∷ [])
+pub closed_end : (log : List Entry) → IsDeskOpen log → IsClosed (log ++ Closed ∷ [])
 closed_end log o = record { before = log; unended = o; log_is = refl }
 
 -- a longer log is of the same desk
-pub origin_more : (name : Name) (log more : List Entry) → IsOpen log → origin_of name (log ++ more) ≡ origin_of name log
+pub origin_more : (name : Name) (log more : List Entry) → IsDeskOpen log → origin_of name (log ++ more) ≡ origin_of name log
 origin_more name log more o =
     ap (λ (l : List Entry). origin_of name (l ++ more)) o.log_is ∙ sym (ap (λ (l : List Entry). origin_of name l) o.log_is)
 
 -- a log with an entry more
-pub beginning_more : (name : Name) (log : List Entry) (e : Entry) → IsOpen log → beginning name (log ++ e ∷ []) ≡ with_entry (beginning name log) e
+pub beginning_more : (name : Name) (log : List Entry) (e : Entry) → IsDeskOpen log → beginning name (log ++ e ∷ []) ≡ with_entry (beginning name log) e
 beginning_more name log (Opened b) o =
     let origin = origin_more name log (Opened b ∷ []) o in let groups = accepted_both log (Opened b ∷ []) ∙ append-nil (accepted log) in
-    let told : acknowledged (log ++ Opened b ∷ []) ≡ acknowledged log = omega (arith, acknowledged_both log (Opened b ∷ [])) in
+    let told : acknowledged_number (log ++ Opened b ∷ []) ≡ acknowledged_number log = omega (arith, acknowledged_both log (Opened b ∷ [])) in
     λ i. record { origin = origin i; groups = groups i; acknowledged = told i }
 beginning_more name log (Accepted c) o =
     let origin = origin_more name log (Accepted c ∷ []) o in let groups = accepted_both log (Accepted c ∷ []) in
-    let told : acknowledged (log ++ Accepted c ∷ []) ≡ acknowledged log = omega (arith, acknowledged_both log (Accepted c ∷ [])) in
+    let told : acknowledged_number (log ++ Accepted c ∷ []) ≡ acknowledged_number log = omega (arith, acknowledged_both log (Accepted c ∷ [])) in
     λ i. record { origin = origin i; groups = groups i; acknowledged = told i }
 beginning_more name log (Acknowledged n) o =
     let origin = origin_more name log (Acknowledged n ∷ []) o in let groups = accepted_both log (Acknowledged n ∷ []) ∙ append-nil (accepted log) in
-    let told : acknowledged (log ++ Acknowledged n ∷ []) ≡ max (acknowledged log) n = omega (arith, acknowledged_both log (Acknowledged n ∷ [])) in
+    let told : acknowledged_number (log ++ Acknowledged n ∷ []) ≡ max (acknowledged_number log) n = omega (arith, acknowledged_both log (Acknowledged n ∷ [])) in
     λ i. record { origin = origin i; groups = groups i; acknowledged = told i }
 beginning_more name log Closed o =
     let origin = origin_more name log (Closed ∷ []) o in let groups = accepted_both log (Closed ∷ []) ∙ append-nil (accepted log) in
-    let told : acknowledged (log ++ Closed ∷ []) ≡ acknowledged log = omega (arith, acknowledged_both log (Closed ∷ [])) in
+    let told : acknowledged_number (log ++ Closed ∷ []) ≡ acknowledged_number log = omega (arith, acknowledged_both log (Closed ∷ [])) in
     λ i. record { origin = origin i; groups = groups i; acknowledged = told i }
 
-pub count_more : (log : List Entry) (e : Entry) → length (accepted (log ++ e ∷ [])) ≡ length (accepted log) + counted e
+pub count_more : (log : List Entry) (e : Entry) → length (accepted (log ++ e ∷ [])) ≡ length (accepted log) + groups_counted e
 count_more log (Opened b) = omega (arith, ap length (accepted_both log (Opened b ∷ [])), length-append (accepted log) [])
 count_more log (Accepted c) = omega (arith, ap length (accepted_both log (Accepted c ∷ [])), length-append (accepted log) (c.value ∷ []))
 count_more log (Acknowledged n) = omega (arith, ap length (accepted_both log (Acknowledged n ∷ [])), length-append (accepted log) [])
@@ -170,8 +170,8 @@ pub taken_in_whole : (a b both : List Entry) (m : ℕ) → IsPrefix a both → I
 taken_in_whole a b both m p q closed legal =
     subst (λ (l : List Entry). IsPrefix (take m (accepted a)) (accepted l)) (sym (closed_whole b both closed q legal)) (taken_prefix a both m p)
 
-pub acknowledged_in_whole : (a b both : List Entry) → IsPrefix a both → IsPrefix b both → IsClosed b → is_legal both ≡ true → acknowledged a ≤ acknowledged b
-acknowledged_in_whole a b both p q closed legal = subst (λ (l : List Entry). acknowledged a ≤ acknowledged l) (sym (closed_whole b both closed q legal)) (acknowledged_prefix a both p)
+pub acknowledged_in_whole : (a b both : List Entry) → IsPrefix a both → IsPrefix b both → IsClosed b → is_legal both ≡ true → acknowledged_number a ≤ acknowledged_number b
+acknowledged_in_whole a b both p q closed legal = subst (λ (l : List Entry). acknowledged_number a ≤ acknowledged_number l) (sym (closed_whole b both closed q legal)) (acknowledged_prefix a both p)
 
 pub taken_count : (a : List Entry) (m : ℕ) → m ≤ length (accepted a) → length (take m (accepted a)) ≡ m
 taken_count a m fits = take_length m (accepted a) fits
@@ -225,7 +225,7 @@ ends_there b ticket h =
     }
 
 -- ---- a log that has begun
-pub begun : (log : List Entry) → IsOpen log → IsBegun log
+pub begun : (log : List Entry) → IsDeskOpen log → IsBegun log
 begun log o = record { base = o.base; rest = o.rest; log_is = o.log_is }
 
 pub begun_more : (a both : List Entry) → IsPrefix a both → IsBegun a → IsBegun both

@@ -16,12 +16,12 @@ accepted (Acknowledged number ∷ entries) = accepted entries
 accepted (Closed ∷ entries) = accepted entries
 
 -- up to which number groups were acknowledged
-abbrev pub acknowledged : List Entry → ℕ
-acknowledged [] = 0
-acknowledged (Opened base ∷ entries) = acknowledged entries
-acknowledged (Accepted group ∷ entries) = acknowledged entries
-acknowledged (Acknowledged number ∷ entries) = max number (acknowledged entries)
-acknowledged (Closed ∷ entries) = acknowledged entries
+abbrev pub acknowledged_number : List Entry → ℕ
+acknowledged_number [] = 0
+acknowledged_number (Opened base ∷ entries) = acknowledged_number entries
+acknowledged_number (Accepted group ∷ entries) = acknowledged_number entries
+acknowledged_number (Acknowledged number ∷ entries) = max number (acknowledged_number entries)
+acknowledged_number (Closed ∷ entries) = acknowledged_number entries
 
 -- the end is not there
 abbrev pub is_endless : List Entry → Bool
@@ -47,7 +47,7 @@ pub record IsBegun (log : List Entry) : Type 0 where
   pub log_is : log ≡ Opened base ∷ rest
 
 -- the desk's opening, and then no end
-pub record IsOpen (log : List Entry) : Type 0 where
+pub record IsDeskOpen (log : List Entry) : Type 0 where
   pub base : Base
   pub rest : List Entry
   pub log_is : log ≡ Opened base ∷ rest
@@ -56,13 +56,13 @@ pub record IsOpen (log : List Entry) : Type 0 where
 -- an open log, and then the end
 pub record IsClosed (log : List Entry) : Type 0 where
   pub before : List Entry
-  pub unended : IsOpen before
+  pub unended : IsDeskOpen before
   pub log_is : log ≡ before ++ Closed ∷ []
 
 -- the network and version that the desk was opened with: its history begins with them
-abbrev pub network_of : List Entry → Net
-network_of (Opened base ∷ entries) = base.network.value
-network_of _ = record { nodes = 0; arcs = []; landmarks = []; room = 0 }
+abbrev pub network_opened_with : List Entry → Net
+network_opened_with (Opened base ∷ entries) = base.network.value
+network_opened_with _ = record { nodes = 0; arcs = []; landmarks = []; room = 0 }
 
 abbrev pub version_of : List Entry → ℕ
 version_of (Opened base ∷ entries) = base.version
@@ -70,7 +70,7 @@ version_of _ = 0
 
 -- the desk that this history is of
 abbrev pub origin_of : Name → List Entry → Origin
-origin_of name log = record { base = network_of log; version = version_of log; history = name }
+origin_of name log = record { base = network_opened_with log; version = version_of log; history = name }
 
 abbrev pub beginning : Name → List Entry → Beginning
-beginning name log = record { origin = origin_of name log; groups = accepted log; acknowledged = acknowledged log }
+beginning name log = record { origin = origin_of name log; groups = accepted log; acknowledged = acknowledged_number log }

@@ -10,6 +10,6 @@ with_entry b (Acknowledged number) = record b { acknowledged = max b.acknowledge
 with_entry b _ = b
 
 -- how many groups an entry adds
-abbrev pub counted : Entry → ℕ
-counted (Accepted group) = 1
-counted _ = 0
+abbrev pub groups_counted : Entry → ℕ
+groups_counted (Accepted group) = 1
+groups_counted _ = 0

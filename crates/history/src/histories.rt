@@ -1,7 +1,7 @@
 ghost use Rattle.std.specs.Prelude.{◌≡◌, ◌⊎◌, ◌+◌, ◌<◌, ◌≤◌, ◌^◌, ◌++◌, ◌∷◌, [], true, length, take, max, MatchBool};
 ghost use mathlib.Core.List.{IsPrefix};
 ghost use Rattle.history.specs.Entries.{is_endless};
-ghost use Rattle.history.specs.Written.{counted, with_entry};
+ghost use Rattle.history.specs.Written.{groups_counted, with_entry};
 ghost use Rattle.machine.specs.Laws.{IsAt};
 
 use crate::claims::{Claim, Settled};
@@ -37,14 +37,14 @@ impl Model for History {
     ghost Value = { Beginning };
 
     ghost use Rattle.history.specs.Chains.{chain, next_pen};
-    ghost use Rattle.history.specs.Entries.{accepted, beginning, version_of, IsOpen};
-    ghost use Rattle.history.specs.Rules.{head_of};
+    ghost use Rattle.history.specs.Entries.{accepted, beginning, version_of, IsDeskOpen};
+    ghost use Rattle.history.specs.Rules.{book_head_of};
 
     ghost view = { λ h. beginning (record { book = h.seen.book; pen = h.root }) (chain h.root h.seen.log) };
 
     ghost invariant = { λ h.
         let log = chain h.root h.seen.log in
-        IsOpen log × (h.count ≡ length (accepted log)) × (h.version ≡ version_of log) × (h.head ≡ head_of h.seen.book) × (h.pen.book ≡ h.seen.book)
+        IsDeskOpen log × (h.count ≡ length (accepted log)) × (h.version ≡ version_of log) × (h.head ≡ book_head_of h.seen.book) × (h.pen.book ≡ h.seen.book)
         × (h.pen.nib.right ≡ may_write) × (h.pen.nib.key ≡ next_pen h.root h.seen.log) × (h.count ≤ 2 ^ 62) };
 }
 
@@ -73,7 +73,7 @@ const MOST_GROUPS: u64 = 1 << 62;
 
 /// How many groups the entry adds.
 fn counted(entry: &Entry) -> u64
-    ensures value { result ≡ counted entry.now }
+    ensures value { result ≡ groups_counted entry.now }
     ensures few { result ≤ 1 }
 {
     match entry {
@@ -125,7 +125,7 @@ impl History {
     /// Appends an entry.
     fn put(&mut self, entry: Entry)
         requires endless { is_endless (entry ∷ []) ≡ true }
-        requires room { (counted entry ≡ 0) ⊎ (length self.old.groups < 2 ^ 62) }
+        requires room { (groups_counted entry ≡ 0) ⊎ (length self.old.groups < 2 ^ 62) }
         ensures { self.new ≡ with_entry self.old entry }
     {
         let next = new_pen(&self.head, &self.seen);

@@ -1,7 +1,7 @@
 // Entries written by pens. Only the holder of a pen may write the one entry that it stands for, so nobody writes an entry in between.
 ghost use Rattle.std.specs.Prelude.{◌≡◌};
 ghost use Rattle.logbook.specs.Pages.{may_write};
-ghost use Rattle.history.specs.Rules.{head_of, WritesBehind};
+ghost use Rattle.history.specs.Rules.{book_head_of, WritesBehind};
 
 use crate::entries::{Entry, Link};
 use crate::rules::{Law, Makes, Nothing, Writes};
@@ -10,7 +10,7 @@ use std::snapshot::Snapshot;
 
 /// A pen that nobody else has, for one entry.
 pub(crate) fn new_pen(head: &Word<Link, u64, Law>, seen: &Seen<Link, u64, Law>) -> Pen
-    requires head { head.now ≡ head_of seen.now.book }
+    requires head { head.now ≡ book_head_of seen.now.book }
     ensures book { result.book ≡ seen.now.book }
     ensures right { result.nib.right ≡ may_write }
 {
@@ -35,7 +35,7 @@ pub(crate) fn write(
     pen: &mut Pen,
     link: &Link,
 )
-    requires head { head.now ≡ head_of seen.old.book }
+    requires head { head.now ≡ book_head_of seen.old.book }
     requires book { pen.old.book ≡ seen.old.book }
     requires right { pen.old.nib.right ≡ may_write }
     requires own { link.now.pen.value ≡ pen.old }

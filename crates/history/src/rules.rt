@@ -9,9 +9,9 @@ pub struct Law;
 impl Rule<Link, u64> for Law {
     ghost use Rattle.std.specs.Prelude.{[]};
     ghost use base.Fml.{ftrue};
-    ghost use Rattle.history.specs.Rules.{IsKept};
+    ghost use Rattle.history.specs.Rules.{IsLogKept};
 
-    ghost holds = { λ cells log. IsKept cells log };
+    ghost holds = { λ cells log. IsLogKept cells log };
 
     ghost first = { [] };
 

@@ -1,5 +1,5 @@
 ghost use Rattle.std.specs.Prelude.{◌≡◌, ◌*◌, ◌≤◌, ◌↔◌, All, length, OnOk};
-ghost use Rattle.disk.specs.Calling.{Writes};
+ghost use Rattle.disk.specs.Calling.{WritesDisk};
 ghost use Rattle.disk.specs.Contents.{Only};
 ghost use Rattle.disk.specs.Gated.{IsWholeOrShut, with_page};
 ghost use Rattle.pages.specs.Spelling.{FitsRecord, body, entry_page};
@@ -40,7 +40,7 @@ pub fn append_page<D: Disk>(
     requires at_rest { D.honest disk.old → Only (D.content disk.old) (D.left disk.old) }
     ensures written { D.honest disk.old → OnOk result (D.content disk.new ≡ with_page (D.content disk.old) (page_size * journal_page_at header.now sequence) (body (entry_page (record { sequence = sequence; first_number = first_number; groups = groups.now })))) }
     // A stop during the call leaves the old page whole, the new one whole, or a closed gate.
-    ensures writes { Writes D.Disk (IsWholeOrShut (D.content disk.old) (page_size * journal_page_at header.now sequence) (body (entry_page (record { sequence = sequence; first_number = first_number; groups = groups.now })))) result disk.old disk.new }
+    ensures writes { WritesDisk D.Disk (IsWholeOrShut (D.content disk.old) (page_size * journal_page_at header.now sequence) (body (entry_page (record { sequence = sequence; first_number = first_number; groups = groups.now })))) result disk.old disk.new }
 {
     let page = encode_journal_page(sequence, first_number, groups);
     let body = body_of(&page);

@@ -20,31 +20,31 @@ use Rattle.roadnet.proofs.InTurn.{changed_by_all_is, groups_are_their_commands, 
 use Rattle.roadnet.proofs.Kept.{admitted_lay, past_first, within_length}
 use Rattle.roadnet.proofs.Members.{is_member-beyond}
 use Rattle.roadnet.proofs.Stepped.{group_admitted, length-update_nth, nth-added, nth-beside, nth-update_nth, nth-update_nth_other}
-use Rattle.keeper.specs.declared.networks.leading.Seen.{Seen}
-use Rattle.keeper.specs.Leading.{Sees}
+use Rattle.keeper.specs.declared.networks.leading.SeenPlace.{SeenPlace}
+use Rattle.keeper.specs.Leading.{SeesAt}
 
 -- ---- a command
-module _ (net : Net) (k : ℕ) (seen : Seen) (s : Sees net k seen) where
-  pub see-updated : (f : RoadArc → RoadArc) (j : ℕ) (arc : Option RoadArc) → j ≡ k → arc ≡ option_map f seen.arc → Sees (record net { arcs = update_nth f net.arcs j }) k (record { arc = arc; marked = seen.marked; arcs = seen.arcs })
+module _ (net : Net) (k : ℕ) (seen : SeenPlace) (s : SeesAt net k seen) where
+  pub see-updated : (f : RoadArc → RoadArc) (j : ℕ) (arc : Option RoadArc) → j ≡ k → arc ≡ option_map f seen.arc → SeesAt (record net { arcs = update_nth f net.arcs j }) k (record { arc = arc; marked = seen.marked; arcs = seen.arcs })
   see-updated f j arc same is = record {
     arc = subst (λ (i : ℕ). nth (update_nth f net.arcs i) k ≡ arc) (sym same) (nth-update_nth f net.arcs k ∙ (ap (option_map f) s.arc ∙ sym is));
     marked = s.marked;
     arcs = length-update_nth f net.arcs j ∙ s.arcs;
   }
 
-  pub see-beside : (f : RoadArc → RoadArc) (j : ℕ) → (j ≡ k → ⊥) → Sees (record net { arcs = update_nth f net.arcs j }) k seen
+  pub see-beside : (f : RoadArc → RoadArc) (j : ℕ) → (j ≡ k → ⊥) → SeesAt (record net { arcs = update_nth f net.arcs j }) k seen
   see-beside f j ne = record { arc = nth-update_nth_other f net.arcs j k (λ e. ne (sym e)) ∙ s.arc; marked = s.marked; arcs = length-update_nth f net.arcs j ∙ s.arcs }
 
-  pub see-mark : (y : ℕ) → y ≡ k → Sees (changed net (Mark y)) k (record { arc = seen.arc; marked = true; arcs = seen.arcs })
+  pub see-mark : (y : ℕ) → y ≡ k → SeesAt (changed net (Mark y)) k (record { arc = seen.arc; marked = true; arcs = seen.arcs })
   see-mark y same = record { arc = s.arc; marked = marked-mark net y k same; arcs = s.arcs }
 
-  pub see-mark_other : (y : ℕ) → (y ≡ k → ⊥) → Sees (changed net (Mark y)) k seen
+  pub see-mark_other : (y : ℕ) → (y ≡ k → ⊥) → SeesAt (changed net (Mark y)) k seen
   see-mark_other y ne = record { arc = s.arc; marked = marked-mark_other net y k ne ∙ s.marked; arcs = s.arcs }
 
-  pub see-unmark : (y : ℕ) → y ≡ k → Sees (changed net (Unmark y)) k (record { arc = seen.arc; marked = false; arcs = seen.arcs })
+  pub see-unmark : (y : ℕ) → y ≡ k → SeesAt (changed net (Unmark y)) k (record { arc = seen.arc; marked = false; arcs = seen.arcs })
   see-unmark y same = record { arc = s.arc; marked = marked-unmark net y k same; arcs = s.arcs }
 
-  pub see-unmark_other : (y : ℕ) → (y ≡ k → ⊥) → Sees (changed net (Unmark y)) k seen
+  pub see-unmark_other : (y : ℕ) → (y ≡ k → ⊥) → SeesAt (changed net (Unmark y)) k seen
   see-unmark_other y ne = record { arc = s.arc; marked = marked-unmark_other net y k ne ∙ s.marked; arcs = s.arcs }
 
   -- a length that is admitted
@@ -62,10 +62,10 @@ module _ (net : Net) (k : ℕ) (seen : Seen) (s : Sees net k seen) where
     counted_more : length (changed net (Lay t h w)).arcs ≡ n
     counted_more = omega (arith, length-append net.arcs (new_arc t h w ∷ []), counted)
 
-    pub see-lay_other : (n ≡ k → ⊥) → Sees (changed net (Lay t h w)) k (record { arc = seen.arc; marked = seen.marked; arcs = n })
+    pub see-lay_other : (n ≡ k → ⊥) → SeesAt (changed net (Lay t h w)) k (record { arc = seen.arc; marked = seen.marked; arcs = n })
     see-lay_other ne = record { arc = nth-beside net.arcs (new_arc t h w) k (λ e. ne (counted ∙ sym e)) ∙ s.arc; marked = s.marked; arcs = counted_more }
 
-    pub see-lay : (arc : RoadArc) → n ≡ k → (t ≤ most_nodes → h ≤ most_nodes → w ≤ longest_arc → arc ≡ new_arc t h w) → Sees (changed net (Lay t h w)) k (record { arc = Some arc; marked = seen.marked; arcs = n })
+    pub see-lay : (arc : RoadArc) → n ≡ k → (t ≤ most_nodes → h ≤ most_nodes → w ≤ longest_arc → arc ≡ new_arc t h w) → SeesAt (changed net (Lay t h w)) k (record { arc = Some arc; marked = seen.marked; arcs = n })
     see-lay arc same is =
         let fits = admitted_lay net t h w none in
         let new : arc ≡ new_arc t h w = is (omega (arith, fits.1.1, ok.nodes_to)) (omega (arith, fits.2.1, ok.nodes_to)) fits.0 in
@@ -76,7 +76,7 @@ module _ (net : Net) (k : ℕ) (seen : Seen) (s : Sees net k seen) where
         }
 
 -- what is seen is all that is told of the network there
-pub seen_is : (net : Net) (k : ℕ) (seen : Seen) → Sees net k seen → seen ≡ record { arc = arc_at net k; marked = is_landmark net k; arcs = length net.arcs }
+pub seen_is : (net : Net) (k : ℕ) (seen : SeenPlace) → SeesAt net k seen → seen ≡ record { arc = arc_at net k; marked = is_landmark net k; arcs = length net.arcs }
 seen_is net k seen s = rw (s.arc, s.marked, s.arcs) refl
 
 -- ---- the whole network
@@ -89,14 +89,14 @@ pub record AreAlike (one other : Net) (k : ℕ) : Type 0 where
   pub marked : is_landmark one k ≡ is_landmark other k
   pub arcs : length one.arcs ≡ length other.arcs
 
-pub alike_by : (one other : Net) (k : ℕ) (a b : Seen) → Sees one k a → Sees other k b → a ≡ b → AreAlike one other k
+pub alike_by : (one other : Net) (k : ℕ) (a b : SeenPlace) → SeesAt one k a → SeesAt other k b → a ≡ b → AreAlike one other k
 alike_by one other k a b s t same = record {
-  arc = s.arc ∙ (ap (λ (x : Seen). x.arc) same ∙ sym t.arc);
-  marked = s.marked ∙ (ap (λ (x : Seen). x.marked) same ∙ sym t.marked);
-  arcs = s.arcs ∙ (ap (λ (x : Seen). x.arcs) same ∙ sym t.arcs);
+  arc = s.arc ∙ (ap (λ (x : SeenPlace). x.arc) same ∙ sym t.arc);
+  marked = s.marked ∙ (ap (λ (x : SeenPlace). x.marked) same ∙ sym t.marked);
+  arcs = s.arcs ∙ (ap (λ (x : SeenPlace). x.arcs) same ∙ sym t.arcs);
 }
 
-pub seen_alike : (one other : Net) (k : ℕ) (a b : Seen) → Sees one k a → Sees other k b → one ≡ other → a ≡ b
+pub seen_alike : (one other : Net) (k : ℕ) (a b : SeenPlace) → SeesAt one k a → SeesAt other k b → one ≡ other → a ≡ b
 seen_alike one other k a b s t same =
     seen_is one k a s ∙ (ap (λ (n : Net). record { arc = arc_at n k; marked = is_landmark n k; arcs = length n.arcs }) same ∙ sym (seen_is other k b t))
 

@@ -14,9 +14,9 @@ done_version Going = None
 done_version (Done version) = Some version
 
 -- what a step of a checkpoint answered, as the machine has it
-abbrev pub told_as : Result Part Refusal → Result (Option ℕ) Refusal
-told_as (Ok part) = Ok (done_version part)
-told_as (Err refusal) = Err refusal
+abbrev pub told_step : Result Part Refusal → Result (Option ℕ) Refusal
+told_step (Ok part) = Ok (done_version part)
+told_step (Err refusal) = Err refusal
 
 -- the ticket of a group that was accepted as this number
 abbrev pub ticket_for : Group → Result ℕ Refusal → Result Ticket Refusal

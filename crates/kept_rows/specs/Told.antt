@@ -8,5 +8,5 @@ difference_of None to_target = Some 0
 difference_of (Some to_source) None = None
 difference_of (Some to_source) (Some to_target) = Some (to_target - to_source)
 
-abbrev pub told_by : List (Option ℕ) → ℕ → ℕ → Option ℕ
-told_by row s t = difference_of (distance_at row s) (distance_at row t)
+abbrev pub told_by_row : List (Option ℕ) → ℕ → ℕ → Option ℕ
+told_by_row row s t = difference_of (distance_at row s) (distance_at row t)

@@ -15,9 +15,9 @@ use Rattle.machine.specs.Machine.{Machine}
 use Rattle.machine.specs.Lives.{Turn, told_version, told_part, Writes}
 use Rattle.store.specs.declared.paged.parts.Part.{Part}
 use Rattle.store.specs.declared.paged.parts.Part.TheVariants.{Going, Done}
-use Rattle.keeper.specs.Parts.{told_as}
+use Rattle.keeper.specs.Parts.{told_step}
 use Rattle.machine.proofs.Rehearsing.{events_more, replies_more}
-use Rattle.lives.specs.Failures.{is_of_stop, IsAnswered, failures_by, failures_of_stop, failures_after, failures_in, failures_at_end, FailsAsTold, EndsAsTold}
+use Rattle.lives.specs.Failures.{is_of_stop, IsEventAnswered, failures_by, failures_of_stop, failures_after_event, failures_in, failures_at_end, FailsAsTold, EndsAsTold}
 use Rattle.lives.specs.Rehearsing.{is_stop, within_of}
 
 -- clauses on one result, together
@@ -30,7 +30,7 @@ pub told_by_write : (result : Result ℕ Refusal) (told : Replied) (n : ℕ) →
 told_by_write (Ok v) told n is = rw is refl
 told_by_write (Err e) told n is = rw is refl
 
-pub told_by_part : (result : Result Part Refusal) (told : Replied) (n : ℕ) → told ≡ told_part (told_as result) → failures_told result n ≡ failures_by told n
+pub told_by_part : (result : Result Part Refusal) (told : Replied) (n : ℕ) → told ≡ told_part (told_step result) → failures_told result n ≡ failures_by told n
 told_by_part (Ok Going) told n is = rw is refl
 told_by_part (Ok (Done v)) told n is = rw is refl
 told_by_part (Err e) told n is = rw is refl
@@ -39,22 +39,22 @@ told_by_part (Err e) told n is = rw is refl
 pub fails_none : {P : Type 0} (n : ℕ) → FailsAsTold {P = P} [] [] n n
 fails_none n = record { turns = []; events_are = refl; replies_are = refl; answered = tt; counted = refl }
 
-answered_more : {P : Type 0} (turns : List (Turn P)) (e : Event P) (now : List Replied) → AllByRecursion (λ turn. IsAnswered turn.0 turn.1) turns → IsAnswered e now → AllByRecursion (λ turn. IsAnswered turn.0 turn.1) (turns ++ (e, now) ∷ [])
+answered_more : {P : Type 0} (turns : List (Turn P)) (e : Event P) (now : List Replied) → AllByRecursion (λ turn. IsEventAnswered turn.0 turn.1) turns → IsEventAnswered e now → AllByRecursion (λ turn. IsEventAnswered turn.0 turn.1) (turns ++ (e, now) ∷ [])
 answered_more [] e now all one = (one, tt)
 answered_more (turn ∷ turns) e now all one = (all.0, answered_more turns e now all.1 one)
 
-failures_more : {P : Type 0} (turns : List (Turn P)) (e : Event P) (now : List Replied) (n : ℕ) → failures_in (turns ++ (e, now) ∷ []) n ≡ failures_after e now (failures_in turns n)
+failures_more : {P : Type 0} (turns : List (Turn P)) (e : Event P) (now : List Replied) (n : ℕ) → failures_in (turns ++ (e, now) ∷ []) n ≡ failures_after_event e now (failures_in turns n)
 failures_more [] e now n = refl
-failures_more (turn ∷ turns) e now n = failures_more turns e now (failures_after turn.0 turn.1 n)
+failures_more (turn ∷ turns) e now n = failures_more turns e now (failures_after_event turn.0 turn.1 n)
 
-pub fails_more : {P : Type 0} (events : List (Event P)) (replies : List Replied) (before mid now : ℕ) (e : Event P) (told : List Replied) → FailsAsTold events replies before mid → IsAnswered e told → now ≡ failures_after e told mid
+pub fails_more : {P : Type 0} (events : List (Event P)) (replies : List Replied) (before mid now : ℕ) (e : Event P) (told : List Replied) → FailsAsTold events replies before mid → IsEventAnswered e told → now ≡ failures_after_event e told mid
     → FailsAsTold (events ++ e ∷ []) (replies ++ told) before now
 fails_more events replies before mid now e told f one is = record {
   turns = f.turns ++ (e, told) ∷ [];
   events_are = events_more f.turns events e told f.events_are;
   replies_are = replies_more f.turns replies e told f.replies_are;
   answered = answered_more f.turns e told f.answered one;
-  counted = is ∙ (ap (failures_after e told) f.counted ∙ sym (failures_more f.turns e told before));
+  counted = is ∙ (ap (failures_after_event e told) f.counted ∙ sym (failures_more f.turns e told before));
 }
 
 pub ends_told : {P : Type 0} (events rest : List (Event P)) (replies : List Replied) (ended : Option Refusal) (before mid now : ℕ) → FailsAsTold events replies before mid → now ≡ failures_at_end ended mid
@@ -91,7 +91,7 @@ no_stop_written a_flush old new reply w = ap is_of_stop w.2 ∙ no_stop w.0
 no_stop_written a_checkpoint old new reply w = ap is_of_stop w.2 ∙ no_stop w.0
 no_stop_written (a_step pages) old new reply w = ap is_of_stop w.2 ∙ no_stop_part w.0
 
-one_of_stop : {P : Type 0} (e : Event P) (w : Writing) (last : Replied) → within_of e ≡ Some w → is_of_stop last ≡ true → IsAnswered e (last ∷ [])
+one_of_stop : {P : Type 0} (e : Event P) (w : Writing) (last : Replied) → within_of e ≡ Some w → is_of_stop last ≡ true → IsEventAnswered e (last ∷ [])
 one_of_stop (StopWithin call picks w') w last is own = own
 one_of_stop (Submit c) w last is own = tt
 one_of_stop Flush w last is own = tt
@@ -102,7 +102,7 @@ one_of_stop Publish w last is own = tt
 one_of_stop (Ask query) w last is own = tt
 one_of_stop Stop w last is own = tt
 
-two_of_stop : {P : Type 0} (e : Event P) (w : Writing) (reply last : Replied) → within_of e ≡ Some w → is_of_stop reply ≡ false → is_of_stop last ≡ true → IsAnswered e (reply ∷ last ∷ [])
+two_of_stop : {P : Type 0} (e : Event P) (w : Writing) (reply last : Replied) → within_of e ≡ Some w → is_of_stop reply ≡ false → is_of_stop last ≡ true → IsEventAnswered e (reply ∷ last ∷ [])
 two_of_stop (StopWithin call picks w') w reply last is other own = (other, own)
 two_of_stop (Submit c) w reply last is other own = cc
 two_of_stop Flush w reply last is other own = cc
@@ -113,7 +113,7 @@ two_of_stop Publish w reply last is other own = cc
 two_of_stop (Ask query) w reply last is other own = cc
 two_of_stop Stop w reply last is other own = cc
 
-pub one_reply : {P : Type 0} (e : Event P) (reply : Replied) → is_stop e ≡ false → IsAnswered e (reply ∷ [])
+pub one_reply : {P : Type 0} (e : Event P) (reply : Replied) → is_stop e ≡ false → IsEventAnswered e (reply ∷ [])
 one_reply (Submit c) reply calm = tt
 one_reply Flush reply calm = tt
 one_reply Checkpoint reply calm = tt
@@ -124,7 +124,7 @@ one_reply (Ask query) reply calm = tt
 one_reply Stop reply calm = tt
 one_reply (StopWithin call picks writing) reply calm = cc
 
-by_stop : {P : Type 0} (e : Event P) (w : Writing) → within_of e ≡ Some w → (replies : List Replied) (n : ℕ) → failures_of_stop replies n ≡ failures_after e replies n
+by_stop : {P : Type 0} (e : Event P) (w : Writing) → within_of e ≡ Some w → (replies : List Replied) (n : ℕ) → failures_of_stop replies n ≡ failures_after_event e replies n
 by_stop (StopWithin call picks w') w is replies n = refl
 by_stop (Submit c) w is replies n = cc
 by_stop Flush w is replies n = cc

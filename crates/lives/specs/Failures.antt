@@ -27,11 +27,11 @@ is_of_stop Stopped = true
 is_of_stop _ = false
 
 -- How many replies an event has: one; but a stop within an event has one where it came within, its own, and else the event's and its own.
-abbrev pub IsAnswered : {P : Type 0} → Event P → List Replied → Type 0
-IsAnswered (StopWithin call picks writing) (reply ∷ []) = is_of_stop reply ≡ true
-IsAnswered (StopWithin call picks writing) (reply ∷ last ∷ []) = (is_of_stop reply ≡ false) × (is_of_stop last ≡ true)
-IsAnswered event (reply ∷ []) = ⊤
-IsAnswered event replies = ⊥
+abbrev pub IsEventAnswered : {P : Type 0} → Event P → List Replied → Type 0
+IsEventAnswered (StopWithin call picks writing) (reply ∷ []) = is_of_stop reply ≡ true
+IsEventAnswered (StopWithin call picks writing) (reply ∷ last ∷ []) = (is_of_stop reply ≡ false) × (is_of_stop last ≡ true)
+IsEventAnswered event (reply ∷ []) = ⊤
+IsEventAnswered event replies = ⊥
 
 -- the same after a stop within an event: where it came within, the disk failed there, and the stop's own reply is the only one
 abbrev pub failures_of_stop : List Replied → ℕ → ℕ
@@ -40,17 +40,17 @@ failures_of_stop (reply ∷ []) n = one_more n
 failures_of_stop (reply ∷ _ ∷ _) n = failures_by reply n
 
 -- the count after an event with these replies: no other event writes
-abbrev pub failures_after : {P : Type 0} → Event P → List Replied → ℕ → ℕ
-failures_after Flush replies n = failures_of_write replies n
-failures_after Checkpoint replies n = failures_of_write replies n
-failures_after (CheckpointStep pages) replies n = failures_of_write replies n
-failures_after (StopWithin call picks writing) replies n = failures_of_stop replies n
-failures_after _ replies n = n
+abbrev pub failures_after_event : {P : Type 0} → Event P → List Replied → ℕ → ℕ
+failures_after_event Flush replies n = failures_of_write replies n
+failures_after_event Checkpoint replies n = failures_of_write replies n
+failures_after_event (CheckpointStep pages) replies n = failures_of_write replies n
+failures_after_event (StopWithin call picks writing) replies n = failures_of_stop replies n
+failures_after_event _ replies n = n
 
 -- the count after these turns
 abbrev pub failures_in : {P : Type 0} → List (Turn P) → ℕ → ℕ
 failures_in [] n = n
-failures_in (turn ∷ turns) n = failures_in turns (failures_after turn.0 turn.1 n)
+failures_in (turn ∷ turns) n = failures_in turns (failures_after_event turn.0 turn.1 n)
 
 -- the count after a run that ended so: one more where that is 43
 abbrev pub failures_at_end : Option Refusal → ℕ → ℕ
@@ -62,7 +62,7 @@ pub record FailsAsTold {P : Type 0} (events : List (Event P)) (replies : List Re
   pub turns : List (Turn P)
   pub events_are : events ≡ map (λ turn. turn.0) turns
   pub replies_are : replies ≡ flat_map (λ turn. turn.1) turns
-  pub answered : AllByRecursion (λ turn. IsAnswered turn.0 turn.1) turns
+  pub answered : AllByRecursion (λ turn. IsEventAnswered turn.0 turn.1) turns
   pub counted : now ≡ failures_in turns before
 
 -- Of these events the first were replied to so, and the run ended so. The count of failures went from one to the other just by the failures
@@ -72,5 +72,5 @@ pub record EndsAsTold {P : Type 0} (events : List (Event P)) (replies : List Rep
   pub rest : List (Event P)
   pub events_are : events ≡ map (λ turn. turn.0) turns ++ rest
   pub replies_are : replies ≡ flat_map (λ turn. turn.1) turns
-  pub answered : AllByRecursion (λ turn. IsAnswered turn.0 turn.1) turns
+  pub answered : AllByRecursion (λ turn. IsEventAnswered turn.0 turn.1) turns
   pub counted : now ≡ failures_at_end ended (failures_in turns before)

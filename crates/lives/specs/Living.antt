@@ -11,11 +11,11 @@ use Rattle.machine.specs.declared.events.Writing.{Writing}
 use Rattle.machine.specs.Machine.{start}
 use Rattle.machine.specs.Lives.{Writes, Does}
 use Rattle.lives.specs.declared.lives.Life.{Life}
-use Rattle.lives.specs.Failures.{failures_by, failures_after}
+use Rattle.lives.specs.Failures.{failures_by, failures_after_event}
 use Rattle.keeper.specs.Keeping.{sizes_of}
 
 -- what a store that is not broken tells: its sizes and numbers have room, and where it came tidy its disk has what is durable, and that alone
-pub record IsAtRest {D : Type 0} (disk : Ghosts D) (store : StoreState D) : Type 0 where
+pub record IsStoreAtRest {D : Type 0} (disk : Ghosts D) (store : StoreState D) : Type 0 where
   pub room : HasRoom store
   pub only : CameTidy disk.honest disk.content store.given → Only (disk.content store.disk) (disk.left store.disk)
   pub stands : CameTidy disk.honest disk.content store.given → IsDurable store (disk.content store.disk)
@@ -33,7 +33,7 @@ module _ {D : Type 0} {s : StoppableGhosts D} {d : Ghosts D} where
     pub does : Does old.keeper.machine event (reply ∷ []) new.keeper.machine
     pub delta : new.delta ≡ old.delta
     pub given : new.keeper.given ≡ old.keeper.given
-    pub counted : d.failures new.keeper.disk ≡ failures_after event (reply ∷ []) (d.failures old.keeper.disk)
+    pub counted : d.failures new.keeper.disk ≡ failures_after_event event (reply ∷ []) (d.failures old.keeper.disk)
 
   -- the same of a write, over which time goes on
   pub record RepliesToWrite (writing : Writing) (reply : Replied) (old new : Life D s d) : Type 0 where

@@ -7,8 +7,8 @@ ghost use Rattle.store.specs.State.{is_calm};
 ghost use Rattle.machine.specs.declared.events.Event.TheVariants.{Submit, Task as TaskEvent, Publish, Ask};
 ghost use Rattle.machine.specs.declared.events.Writing.TheVariants.{Step as a_step};
 ghost use Rattle.machine.specs.Lives.{told_version, told_part};
-ghost use Rattle.lives.specs.Living.{IsAtRest, BeginsFrom, Replies, RepliesToWrite, IsOnlyArmed};
-ghost use Rattle.keeper.specs.Parts.{told_as};
+ghost use Rattle.lives.specs.Living.{IsStoreAtRest, BeginsFrom, Replies, RepliesToWrite, IsOnlyArmed};
+ghost use Rattle.keeper.specs.Parts.{told_step};
 ghost use Rattle.lives.specs.Rehearsing.{is_stop};
 
 use crate::lives::Life;
@@ -33,7 +33,7 @@ fn told_version(written: &Result<u64, Refusal>) -> Replied
 
 /// The reply to a step of a checkpoint.
 fn told_part(stepped: &Result<Part, Refusal>) -> Replied
-    ensures { result ≡ told_part (told_as stepped.now) }
+    ensures { result ≡ told_part (told_step stepped.now) }
 {
     match stepped {
         Ok(Part::Going) => Replied::Stepped,
@@ -54,7 +54,7 @@ impl<D: Stoppable> Life<D> {
         requires width { ForSome delta IsWidth }
         ensures begins { IfOk result (BeginsFrom store delta) }
         ensures handed_back { IfErr result (λ refused. refused ≡ store) }
-        ensures told { IsAtRest D.Disk store }
+        ensures told { IsStoreAtRest D.Disk store }
     {
         let opened = store.version();
         match Keeper::new(rt, alloc, store, delta) {

@@ -21,7 +21,7 @@ use Rattle.machine.specs.declared.events.Writing.TheVariants.{Flush as a_flush, 
 use Rattle.machine.specs.declared.events.Replied.{Replied}
 use Rattle.machine.specs.declared.events.Replied.TheVariants.{Accepted, Durable, Task as TaskOf, Shown, Answered, Refused, Opened, Stopped}
 use Rattle.machine.specs.Machine.{Machine, start, latest, fitting, batch, network_at}
-use Rattle.machine.specs.Calls.{refusal_of_submit, with_group, refusal_of_flush, with_batch, failed, refusal_of_checkpoint, has_nothing_unchecked, done_by, with_part, has_no_task, with_shown, reopened}
+use Rattle.machine.specs.Calls.{refusal_of_submit, with_group, refusal_of_flush, with_batch, failed, checkpoint_refusal_of, has_nothing_unchecked, done_by, with_part, has_no_task, with_shown, reopened}
 use Rattle.machine.specs.Lives.{pages_of_step, Does, Turn, Passes, Lives}
 use Rattle.machine.specs.Lives.Ends.{Whole}
 use Rattle.machine.specs.Headline.{accepted_in}
@@ -70,7 +70,7 @@ module _ (P : Type 0) (m : Machine) (es : List (Event P)) (rs : List Replied) wh
   flush_refused_then r some p = then m m Flush (Refused r ∷ []) es rs (Refused r, (Err r, inl (inl some, refl), refl), refl) p
 
   -- one step ends it
-  checkpoint_then : (v : ℕ) → refusal_of_checkpoint m ≡ None → Some v ≡ done_by m pages_of_step → Plays P (with_part m pages_of_step) es rs → Plays P m (Checkpoint ∷ es) (Durable v ∷ rs)
+  checkpoint_then : (v : ℕ) → checkpoint_refusal_of m ≡ None → Some v ≡ done_by m pages_of_step → Plays P (with_part m pages_of_step) es rs → Plays P m (Checkpoint ∷ es) (Durable v ∷ rs)
   checkpoint_then v none done p =
       then m (with_part m pages_of_step) Checkpoint (Durable v ∷ []) es rs (Durable v, (Ok v, (0, m, refl, (none, done, refl)), refl), refl) p
 
@@ -108,7 +108,7 @@ module _ (P : Type 0) (m : Machine) (es : List (Event P)) (rs : List Replied) wh
         then m (reopened (with_batch m) (m.durable + batch m) u) (StopWithin call picks a_flush) (Durable (m.durable + batch m) ∷ Opened (m.durable + batch m) ∷ []) es rs
         (with_batch m, m.durable + batch m, inr (Durable (m.durable + batch m), (Ok (m.durable + batch m), (none, refl, refl), refl), refl), (inl refl, (u, fits, refl))) p
 
-    stop_in_checkpoint_then : (u : ℕ) → u ≤ m.sizes.journal_pages → refusal_of_checkpoint m ≡ None → has_nothing_unchecked m ≡ false → Plays P (reopened m m.durable u) es rs → Plays P m (StopWithin call picks a_checkpoint ∷ es) (Opened m.durable ∷ rs)
+    stop_in_checkpoint_then : (u : ℕ) → u ≤ m.sizes.journal_pages → checkpoint_refusal_of m ≡ None → has_nothing_unchecked m ≡ false → Plays P (reopened m m.durable u) es rs → Plays P m (StopWithin call picks a_checkpoint ∷ es) (Opened m.durable ∷ rs)
     stop_in_checkpoint_then u fits none some p =
         then m (reopened m m.durable u) (StopWithin call picks a_checkpoint) (Opened m.durable ∷ []) es rs
         (failed m 0, m.durable, inl ((Err Device, (0, m, refl, inr (none, some, refl, refl)), refl), refl), (inl refl, (u, fits, refl))) p

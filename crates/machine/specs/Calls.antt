@@ -9,7 +9,7 @@ use Rattle.roadnet.specs.Net.{Net}
 use Rattle.roadnet.specs.Step.{first_refusal}
 use Rattle.rows.specs.declared.queries.Query.{Query}
 use Rattle.rows.specs.declared.queries.Query.TheVariants.{Dist}
-use Rattle.rows.specs.Replies.{IsRight, refusal_of as refusal_of_query}
+use Rattle.rows.specs.Replies.{IsRight, query_refusal_of as refusal_of_query}
 use Rattle.machine.specs.declared.calls.Ticket.{Ticket}
 use Rattle.machine.specs.declared.calls.Receipt.{Receipt}
 use Rattle.machine.specs.declared.calls.Answer.{Answer}
@@ -70,8 +70,8 @@ Flushes old (Err refusal) new =
 
 -- A STEP OF A CHECKPOINT, of so many pages. It answers the version that is done, or nothing while the checkpoint is going.
 
-abbrev pub refusal_of_checkpoint : Machine → Option Refusal
-refusal_of_checkpoint m = if m.broken then Some Broken else None
+abbrev pub checkpoint_refusal_of : Machine → Option Refusal
+checkpoint_refusal_of m = if m.broken then Some Broken else None
 
 -- no checkpoint is going, and no page is unchecked
 abbrev pub has_nothing_unchecked : Machine → Bool
@@ -101,10 +101,10 @@ abbrev pub begins_checkpoint : Machine → Bool
 begins_checkpoint m = is_none m.checkpoint && not (m.unchecked == 0)
 
 abbrev pub StepsCheckpoint : Machine → ℕ → Result (Option ℕ) Refusal → Machine → Type 0
-StepsCheckpoint old pages (Ok done) new = (refusal_of_checkpoint old ≡ None) × (done ≡ done_by old pages) × (new ≡ with_part old pages)
+StepsCheckpoint old pages (Ok done) new = (checkpoint_refusal_of old ≡ None) × (done ≡ done_by old pages) × (new ≡ with_part old pages)
 StepsCheckpoint old pages (Err refusal) new =
-    IsRefusedTaking (begins_checkpoint old) (refusal_of_checkpoint old) refusal old new
-    ⊎ ((refusal_of_checkpoint old ≡ None) × (has_nothing_unchecked old ≡ false) × (refusal ≡ Device) × (new ≡ failed old 0))
+    IsRefusedTaking (begins_checkpoint old) (checkpoint_refusal_of old) refusal old new
+    ⊎ ((checkpoint_refusal_of old ≡ None) × (has_nothing_unchecked old ≡ false) × (refusal ≡ Device) × (new ≡ failed old 0))
 
 -- TASKS AND VIEWS
 

@@ -7,7 +7,7 @@ ghost use Rattle.roadnet.specs.declared.refusals.Refusal.TheVariants.{Device as 
 ghost use Rattle.machine.specs.Calls.{StepsCheckpoint, has_nothing_unchecked};
 ghost use Rattle.keeper.specs.Keeping.{IsDurableIn};
 ghost use Rattle.office.specs.Offices.{WhenTidy};
-ghost use Rattle.keeper.specs.Parts.{told_as};
+ghost use Rattle.keeper.specs.Parts.{told_step};
 
 use crate::naming::Naming;
 use crate::offices::Office;
@@ -24,7 +24,7 @@ impl<N: Naming, D: Disk> Office<N, D> {
     pub fn checkpoint_step(&mut self, pages: u32) -> Result<Part, Refusal>
         requires some { 1 ≤ pages }
         requires few { pages ≤ 64 }
-        ensures step { StepsCheckpoint self.old.machine pages (told_as result) self.new.machine }
+        ensures step { StepsCheckpoint self.old.machine pages (told_step result) self.new.machine }
         // If no checkpoint is going and no page is unchecked, nothing is changed, not even on the disk.
         ensures nothing { self.old.machine.broken ≡ false → has_nothing_unchecked self.old.machine ≡ true → self.new ≡ self.old }
         ensures same { IfErr result (λ refusal. refusal ≢ device → self.new ≡ self.old) }

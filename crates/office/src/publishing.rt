@@ -10,7 +10,7 @@ use crate::offices::Office;
 use crate::works::{Built, Work};
 use disk::Disk;
 use keeper::Task;
-use published::{Published, Reader, Shown};
+use published::{Published, Shown, ShownReader};
 use roadnet::{OutOfMemory, Refusal};
 use rows::View;
 use std::sync::{Arc, Wait};
@@ -160,7 +160,7 @@ impl<N: Naming, D: Disk> Office<N, D> {
     /// A reader of this desk that has not seen any group.
     ///
     /// It fails with 60 if no free place is found: there are 64, and while readers come and go a free one may be missed.
-    pub fn reader(&mut self) -> Result<Reader, Refusal>
+    pub fn reader(&mut self) -> Result<ShownReader, Refusal>
         ensures reader { IfOk result (λ reader. (reader.origin ≡ N.origin) × (reader.groups ≡ [])) }
         ensures causes { IfErr result (λ refusal. refusal ≡ no_reader_place) }
         ensures same { self.new ≡ self.old }

@@ -2,7 +2,7 @@
 use Rattle.std.proofs.Common.{◌≡◌, ℕ, List, Result, Ok, Err, sym, ap, ◌∙◌, subst}
 use Rattle.std.specs.Prelude.{◌↔◌}
 use Rattle.disk.specs.declared.disk.Disk.{Ghosts}
-use Rattle.disk.specs.Calling.{Reads, WritesUnsynced, Writes}
+use Rattle.disk.specs.Calling.{ReadsDisk, WritesUnsynced, WritesDisk}
 use Rattle.disk.specs.Contents.{one_more, failures_after}
 use Rattle.disk.proofs.Steps.{same_twice, weaker, and_then, then_nothing}
 use Rattle.roadnet.specs.declared.refusals.Refusal.{Refusal}
@@ -46,7 +46,7 @@ module _ {D : Type 0} (disk : Ghosts D) where
   }
 
   pub unsynced_then_reads : {T E U F : Type 0} (P : List ℕ → Type 0) (t : T) (result : Result U F) (old mid new : D)
-      → WritesUnsynced {T = T} {E = E} disk P (Ok t) old mid → Reads disk result mid new → WritesUnsynced disk P result old new
+      → WritesUnsynced {T = T} {E = E} disk P (Ok t) old mid → ReadsDisk disk result mid new → WritesUnsynced disk P result old new
   unsynced_then_reads P t result old mid new first second = record {
     any_moment = λ h. then_nothing disk.moment disk.left_since old mid new P (first.any_moment h) (second.same (first.honest.1 h)).adds_nothing;
     counted = second.counted ∙ ap (failures_after result) first.counted;
@@ -55,8 +55,8 @@ module _ {D : Type 0} (disk : Ghosts D) where
 
   -- the failure of a call is passed on
   pub unsynced_fails : {T E U F : Type 0} (P : List ℕ → Type 0) (e : E) (f : F) (result : Result U F) (old new : D) → result ≡ Err f
-      → WritesUnsynced {T = T} {E = E} disk P (Err e) old new → Writes disk P result old new
-  unsynced_fails {T} {E} {U} {F} P e f result old new is writes = subst (λ (r : Result U F). Writes disk P r old new) (sym is) (record {
+      → WritesUnsynced {T = T} {E = E} disk P (Err e) old new → WritesDisk disk P result old new
+  unsynced_fails {T} {E} {U} {F} P e f result old new is writes = subst (λ (r : Result U F). WritesDisk disk P r old new) (sym is) (record {
     any_moment = writes.any_moment;
     at_rest = λ h. tt;
     counted = writes.counted;
@@ -64,7 +64,7 @@ module _ {D : Type 0} (disk : Ghosts D) where
   })
 
   pub unsynced_then_writes : {T E U F : Type 0} (P Q : List ℕ → Type 0) (t : T) (result : Result U F) (old mid new : D)
-      → WritesUnsynced {T = T} {E = E} disk P (Ok t) old mid → Writes disk Q result mid new → (disk.honest old → (c : List ℕ) → Q c → P c) → Writes disk P result old new
+      → WritesUnsynced {T = T} {E = E} disk P (Ok t) old mid → WritesDisk disk Q result mid new → (disk.honest old → (c : List ℕ) → Q c → P c) → WritesDisk disk P result old new
   unsynced_then_writes P Q t result old mid new first second within = record {
     any_moment = λ h. and_then disk.moment disk.left_since old mid new P Q (first.any_moment h) (second.any_moment (first.honest.1 h)) (within h);
     at_rest = λ h. second.at_rest (first.honest.1 h);

@@ -3,14 +3,14 @@ use Rattle.std.specs.Prelude.{◌≡◌, ℕ, ◌+◌, ◌-◌, ◌*◌, ◌≤�
 use Rattle.pages.specs.Limits.{page_size}
 
 -- the pages from this number on, one behind the other
-pub record Run : Type 0 where
+pub record PageRun : Type 0 where
   pub first : ℕ
   pub bytes : List ℕ
 
 -- the run is one of the file
-abbrev pub IsRunOf : List ℕ → Run → Type 0
+abbrev pub IsRunOf : List ℕ → PageRun → Type 0
 IsRunOf file run = run.bytes ≡ take (length run.bytes) (drop (page_size * run.first) file)
 
 -- this page is one of the run's
-abbrev pub Holds : Run → ℕ → Type 0
-Holds run k = (run.first ≤ k) × (page_size * (k - run.first + 1) ≤ length run.bytes)
+abbrev pub HoldsPage : PageRun → ℕ → Type 0
+HoldsPage run k = (run.first ≤ k) × (page_size * (k - run.first + 1) ≤ length run.bytes)

@@ -1,5 +1,5 @@
 ghost use Rattle.std.specs.Prelude.{◌≡◌, ◌+◌, ◌*◌, ◌<◌, ◌≤◌, ◌^◌, ◌↔◌, length, IfOk};
-ghost use Rattle.disk.specs.Calling.{Reads};
+ghost use Rattle.disk.specs.Calling.{ReadsDisk};
 ghost use Rattle.storefile.specs.StoreFile.{page};
 ghost use Rattle.pages.specs.Gates.{open_number};
 ghost use Rattle.pages.specs.Limits.{page_size};
@@ -13,7 +13,7 @@ pub fn read_open_number<D: Disk>(disk: &mut D, k: u64) -> Result<Option<u64>, Di
     requires fits { k < 2 ^ 52 }
     requires within { D.honest disk.old → page_size * (k + 1) ≤ length (D.content disk.old) }
     ensures number { D.honest disk.old → IfOk result (λ found. found ≡ open_number (page (D.content disk.old) k)) }
-    ensures reads { Reads D.Disk result disk.old disk.new }
+    ensures reads { ReadsDisk D.Disk result disk.old disk.new }
 {
     let mut page = [0; PAGE_SIZE];
     read_page(disk, k, &mut page)?;

@@ -1,8 +1,8 @@
 ghost use Rattle.std.specs.Prelude.{◌≡◌, ◌+◌, ◌-◌, ◌*◌, ◌<◌, ◌≤◌, ◌^◌, ◌↔◌, [], IsTrue, length, take, drop, IfOk, OnOk};
-ghost use Rattle.disk.specs.Calling.{Reads};
+ghost use Rattle.disk.specs.Calling.{ReadsDisk};
 ghost use Rattle.storefile.specs.StoreFile.{page};
 ghost use Rattle.pages.specs.Limits.{page_size};
-ghost use Rattle.pagereader.specs.Runs.{IsRunOf, Holds};
+ghost use Rattle.pagereader.specs.Runs.{IsRunOf, HoldsPage};
 
 use disk::{Disk, DiskError, read_at};
 use pages::{PAGE_SIZE, PAGES_AT_ONCE};
@@ -16,7 +16,7 @@ pub fn read_page<D: Disk>(disk: &mut D, k: u64, into: &mut [u8; PAGE_SIZE]) -> R
     requires fits { k < 2 ^ 52 }
     requires within { D.honest disk.old → page_size * (k + 1) ≤ length (D.content disk.old) }
     ensures bytes { D.honest disk.old → OnOk result (into.new ≡ page (D.content disk.old) k) }
-    ensures reads { Reads D.Disk result disk.old disk.new }
+    ensures reads { ReadsDisk D.Disk result disk.old disk.new }
 {
     read_at(disk, k * PAGE_SIZE as u64, into)
 }
@@ -27,7 +27,7 @@ fn read_run<D: Disk>(disk: &mut D, k: u64, count: u64, buffer: &mut [u8]) -> Res
     requires room { page_size * count ≤ length buffer.old }
     requires within { D.honest disk.old → page_size * (k + count) ≤ length (D.content disk.old) }
     ensures bytes { D.honest disk.old → OnOk result (take (page_size * count) buffer.new ≡ take (page_size * count) (drop (page_size * k) (D.content disk.old))) }
-    ensures reads { Reads D.Disk result disk.old disk.new }
+    ensures reads { ReadsDisk D.Disk result disk.old disk.new }
 {
     read_at(
         disk,
@@ -47,10 +47,10 @@ pub struct PageReader {
 
 impl Model for PageReader {
     ghost use Rattle.std.specs.Prelude.{◌≡◌, ◌*◌, ◌≤◌, take, length};
-    ghost use Rattle.pagereader.specs.Runs.{Run};
+    ghost use Rattle.pagereader.specs.Runs.{PageRun};
     ghost use Rattle.pages.specs.Limits.{page_size};
 
-    ghost Value = { Run };
+    ghost Value = { PageRun };
 
     ghost view = { λ r. record { first = r.first; bytes = take (page_size * r.count) r.buffer.items } };
 
@@ -96,7 +96,7 @@ impl PageReader {
         ensures from { OnOk result (self.new.first ≤ k) }
         ensures to { OnOk result (page_size * (k - self.new.first + 1) ≤ length self.new.bytes) }
         ensures run { D.honest disk.old → IsRunOf (D.content disk.old) self.new }
-        ensures reads { Reads D.Disk result disk.old disk.new }
+        ensures reads { ReadsDisk D.Disk result disk.old disk.new }
     {
         if self.holds(k) {
             return Ok(());
@@ -112,7 +112,7 @@ impl PageReader {
         ensures from { OnOk result (self.new.first ≤ k) }
         ensures to { OnOk result (page_size * (k - self.new.first + 1) ≤ length self.new.bytes) }
         ensures run { D.honest disk.old → IsRunOf (D.content disk.old) self.new }
-        ensures reads { Reads D.Disk result disk.old disk.new }
+        ensures reads { ReadsDisk D.Disk result disk.old disk.new }
     {
         let count = (end - k).min(PAGES_AT_ONCE as u64);
         self.first = k;
@@ -138,8 +138,8 @@ impl PageReader {
         ensures bytes { D.honest disk.old → OnOk result (into.new ≡ page (D.content disk.old) k) }
         ensures run { D.honest disk.old → IsRunOf (D.content disk.old) self.new }
         // The page stays held, so that it is not read from the disk again.
-        ensures kept { OnOk result (Holds self.new k) }
-        ensures reads { Reads D.Disk result disk.old disk.new }
+        ensures kept { OnOk result (HoldsPage self.new k) }
+        ensures reads { ReadsDisk D.Disk result disk.old disk.new }
     {
         self.hold(disk, k, end)?;
         self.copy(k, into);

@@ -7,11 +7,11 @@ use Rattle.std.proofs.lemmas.List.{length-append, length-take}
 use Rattle.std.proofs.lemmas.Bool.Decides.{nat_tests}
 use Rattle.byteorder.specs.Endian.{big_bytes, big_number}
 use Rattle.byteorder.specs.Numbers.{big_number-reads_back}
-use Rattle.pages.specs.Spelling.{head_front, head_fields, AreFit, AreArcsOf, IsHeader, IsHead, SpelledHead}
+use Rattle.pages.specs.Spelling.{head_front, head_fields, AreHeadNumbersFit, AreArcsOf, IsHeader, IsHead, SpelledHead}
 use Rattle.pages.specs.declared.header.Header.{Header}
 use Rattle.pages.specs.declared.content.Format.{Format}
 use Rattle.pages.specs.declared.content.Format.TheVariants.{One, Two}
-use Rattle.pages.specs.Formats.{IsRoomFor, arcs_field, arcs_read, landmarks_at}
+use Rattle.pages.specs.Formats.{IsHeaderRoomFor, arcs_field, arcs_read, landmarks_at}
 use Rattle.pages.specs.Contents.{Head}
 use Rattle.pages.specs.Reading.{read_items}
 use Rattle.pages.proofs.Padding.{begins}
@@ -76,7 +76,7 @@ pub record ReadsAs (f : Format) (first : ℕ) (page : List ℕ) (s : Head) : Typ
   pub landmarks : read_items (big_number 4) 4 (length s.landmarks) (drop (landmarks_at f) page) ≡ s.landmarks
 
 -- the number of arcs is read again, or is that of the header
-pub arcs_back : (f : Format) (arcs room m : ℕ) → IsRoomFor f arcs room → arcs ≤ m → m ≤ room → m < 2 ^ 32 → (rest : List ℕ) → arcs_read f arcs (big_number 4 (arcs_field f m ++ rest)) ≡ m
+pub arcs_back : (f : Format) (arcs room m : ℕ) → IsHeaderRoomFor f arcs room → arcs ≤ m → m ≤ room → m < 2 ^ 32 → (rest : List ℕ) → arcs_read f arcs (big_number 4 (arcs_field f m ++ rest)) ≡ m
 arcs_back One arcs room m is from to lt rest = let all = is refl in omega (arith, all)
 arcs_back Two arcs room m is from to lt rest = big_number-reads_back 4 m rest lt
 
@@ -113,11 +113,11 @@ head_read h page s is spells =
     let b = begins page (head_fields h.format s) (length-fields h.format s spells.fits.numbers.count_to) spells.spelled in
     rw b.1 (fields_read h s b.0 is spells.fits)
 
-fit_as : (t : Head) (a b c n : ℕ) → a ≡ t.epoch → b ≡ t.version → c ≡ t.next_sequence → n ≡ length t.landmarks → AreFit t.epoch t.version t.next_sequence (length t.landmarks) → AreFit a b c n
+fit_as : (t : Head) (a b c n : ℕ) → a ≡ t.epoch → b ≡ t.version → c ≡ t.next_sequence → n ≡ length t.landmarks → AreHeadNumbersFit t.epoch t.version t.next_sequence (length t.landmarks) → AreHeadNumbersFit a b c n
 fit_as t a b c n p q r e h = rw (p, q, r, e) h
 
 -- the numbers that are found where a head is spelled are fit
-pub found_fit : (h : Header) (page : List ℕ) (a b c n m : ℕ) (s : Head) → IsHeader h → Found h page a b c n m → SpelledHead h page s → AreFit a b c n
+pub found_fit : (h : Header) (page : List ℕ) (a b c n m : ℕ) (s : Head) → IsHeader h → Found h page a b c n m → SpelledHead h page s → AreHeadNumbersFit a b c n
 found_fit h page a b c n m s ok is spells =
     let r = head_read h page s ok spells in
     fit_as s a b c n (is.epoch_is ∙ r.epoch) (is.version_is ∙ r.version) (is.sequence_is ∙ r.next_sequence) (is.count_is ∙ r.count) spells.fits.numbers
@@ -138,11 +138,11 @@ found_is h page a b c n m xs s ok is are spells =
     with_fields s a b c m xs (is.epoch_is ∙ r.epoch) (is.version_is ∙ r.version) (is.sequence_is ∙ r.next_sequence) (is.arcs_is ∙ r.arcs) (found_landmarks h page a b c n m xs s ok is are spells)
 
 -- what is found is a head where its parts are fit
-pub found_head : (h : Header) (a b c n m : ℕ) (xs bytes : List ℕ) → AreFit a b c n → AreArcsOf h m → xs ≡ read_items (big_number 4) 4 n bytes → IsStrictlyIncreasing xs → list_all (λ x. nat_le 1 x && nat_le x h.nodes) xs ≡ true
+pub found_head : (h : Header) (a b c n m : ℕ) (xs bytes : List ℕ) → AreHeadNumbersFit a b c n → AreArcsOf h m → xs ≡ read_items (big_number 4) 4 n bytes → IsStrictlyIncreasing xs → list_all (λ x. nat_le 1 x && nat_le x h.nodes) xs ≡ true
     → IsHead h (record { epoch = a; version = b; next_sequence = c; arcs = m; landmarks = xs })
 found_head h a b c n m xs bytes fit arcs are ascends pass =
     let count : length xs ≡ n = ap length are ∙ length-read (big_number 4) 4 n bytes in
-    record { numbers = subst (AreFit a b c) (sym count) fit; arcs = arcs; ascending = ascends; each = are_nodes h.nodes xs pass }
+    record { numbers = subst (AreHeadNumbersFit a b c) (sym count) fit; arcs = arcs; ascending = ascends; each = are_nodes h.nodes xs pass }
 
 pub head_once : (h : Header) (page : List ℕ) (s t : Head) → IsHeader h → SpelledHead h page s → SpelledHead h page t → s ≡ t
 head_once h page s t ok hs ht =

@@ -5,7 +5,7 @@ use Rattle.pages.specs.declared.header.Header.{Header}
 use Rattle.pages.specs.declared.content.Format.{Format}
 use Rattle.pages.specs.declared.content.Format.TheVariants.{One}
 use Rattle.pages.specs.declared.content.Slot.TheVariants.{A, B}
-use Rattle.pages.specs.Formats.{IsRoomFor}
+use Rattle.pages.specs.Formats.{IsHeaderRoomFor}
 use Rattle.pages.specs.Spelling.{IsHeader}
 use Rattle.pages.specs.Layout.{Part, Front, Arcs, HeadOf, Words, EndsOf, Journal, IsPart, arc_pages, word_pages, end_pages, page_number, page_count, pages_for}
 
@@ -190,7 +190,7 @@ fills h k lt =
     (f.0, is_part h f.0 f.1, sym (is_number h f.0) ∙ f.2)
 
 -- in format 1 there is room for the arcs alone
-pub room_of_one : (f : Format) (arcs room : ℕ) → f ≡ One → IsRoomFor f arcs room → room ≡ arcs
+pub room_of_one : (f : Format) (arcs room : ℕ) → f ≡ One → IsHeaderRoomFor f arcs room → room ≡ arcs
 room_of_one f arcs room e is = is e
 
 no_pages : (arcs room : ℕ) → room ≡ arcs → pages_for 511 (room - arcs) ≡ 0

@@ -9,7 +9,7 @@ use Rattle.byteorder.specs.Numbers.{big_number-reads_back, big_from-lt}
 use Rattle.roadnet.specs.declared.arcs.RoadArc.{RoadArc}
 use Rattle.pages.specs.declared.content.Ends.{Ends}
 use Rattle.pages.specs.declared.content.Word.{Word}
-use Rattle.pages.specs.Spelling.{zeros, page_of, word_bytes, word_of, IsWord, SpelledWords, ends_bytes, ends_of, IsEnds, SpelledArcs}
+use Rattle.pages.specs.Spelling.{zeros, page_of, bytes_of_word, word_of, IsWord, SpelledWords, ends_bytes, ends_of, IsEnds, SpelledArcs}
 use Rattle.pages.specs.Reading.{read_items, read_word, read_ends, is_ends}
 use Rattle.pages.proofs.Padding.{both, whole, rest_passes}
 use Rattle.pages.proofs.Records.{IsBytes, IsBytes-drop}
@@ -17,8 +17,8 @@ use Rattle.pages.proofs.Four.{four_back}
 use Rattle.pages.proofs.Items.{length-items, length-read, items_read, items_fit, items_spelled}
 
 -- there is room for one more word
-pub word_room : (page : List ℕ) (arcs : List RoadArc) (i : ℕ) → length arcs ≤ 1023 → i < length arcs → page ≡ flat_map word_bytes (map word_of (take i arcs)) → length page + 4 ≤ 4096
-word_room page arcs i few lt is = omega (arith, ap length is, length-items word_bytes 4 (λ x. refl) (map word_of (take i arcs)), length-map (take i arcs) word_of, length-take i arcs)
+pub word_room : (page : List ℕ) (arcs : List RoadArc) (i : ℕ) → length arcs ≤ 1023 → i < length arcs → page ≡ flat_map bytes_of_word (map word_of (take i arcs)) → length page + 4 ≤ 4096
+word_room page arcs i few lt is = omega (arith, ap length is, length-items bytes_of_word 4 (λ x. refl) (map word_of (take i arcs)), length-map (take i arcs) word_of, length-take i arcs)
 
 -- there is room for the ends of one more arc
 pub arc_room : (page : List ℕ) (arcs : List RoadArc) (i : ℕ) → length arcs ≤ 511 → i < length arcs → page ≡ flat_map ends_bytes (map ends_of (take i arcs)) → length page + 8 ≤ 4096
@@ -33,7 +33,7 @@ from_number n len opened p q = rw (p, q) refl
 abbrev word_of_number : ℕ → Word
 word_of_number n = record { length = n % 2 ^ 31; opened = nat_lt n (2 ^ 31) }
 
-number_back : (len : ℕ) (opened : Bool) → len < 2 ^ 31 → read_word (word_bytes (record { length = len; opened = opened })) ≡ record { length = len; opened = opened }
+number_back : (len : ℕ) (opened : Bool) → len < 2 ^ 31 → read_word (bytes_of_word (record { length = len; opened = opened })) ≡ record { length = len; opened = opened }
 number_back len true lt =
     ap word_of_number (big_number-reads_back 4 (len + 0) [] (omega arith))
     ∙ from_number (len + 0) len true (omega arith) (grind (arith, nat_tests))
@@ -41,7 +41,7 @@ number_back len false lt =
     ap word_of_number (big_number-reads_back 4 (len + 2 ^ 31) [] (omega arith))
     ∙ from_number (len + 2 ^ 31) len false (omega arith) (grind (arith, nat_tests))
 
-word_back : (w : Word) → IsWord w → read_word (word_bytes w) ≡ w
+word_back : (w : Word) → IsWord w → read_word (bytes_of_word w) ≡ w
 word_back w fits = number_back w.length w.opened fits
 
 pub words_fit : (n : ℕ) (bytes : List ℕ) → IsBytes bytes → AllByRecursion IsWord (read_items read_word 4 n bytes)
@@ -51,7 +51,7 @@ pub words_read : (count : ℕ) (page : List ℕ) (words : List Word) → Spelled
 unfolding page_of
 words_read count page words spells =
     ap (λ (n : ℕ). read_items read_word 4 n page) (sym spells.count_is) ∙ ap (read_items read_word 4 (length words)) spells.spelled
-    ∙ items_read IsWord read_word word_bytes 4 (λ x. refl) word_back words (zeros (4096 - length (flat_map word_bytes words))) spells.fits
+    ∙ items_read IsWord read_word bytes_of_word 4 (λ x. refl) word_back words (zeros (4096 - length (flat_map bytes_of_word words))) spells.fits
 
 -- ---- tests of each end
 
@@ -100,7 +100,7 @@ arcs_read nodes count page arcs lt spells =
 number_again : (n : ℕ) → n < 2 ^ 32 → n % 2 ^ 31 + (if nat_lt n (2 ^ 31) then 0 else 2 ^ 31) ≡ n
 number_again n lt = grind (arith, nat_tests)
 
-word_again : (bytes : List ℕ) → IsBytes bytes → length bytes ≡ 4 → word_bytes (read_word bytes) ≡ bytes
+word_again : (bytes : List ℕ) → IsBytes bytes → length bytes ≡ 4 → bytes_of_word (read_word bytes) ≡ bytes
 word_again bytes is len =
     ap (big_bytes 4) (number_again (big_number 4 bytes) (big_from-lt 0 4 bytes is)) ∙ four_back bytes is (omega arith) ∙ take_all 4 bytes (omega arith)
 
@@ -116,7 +116,7 @@ words_spelled count page words is size few zeros is_read =
     record {
       count_is = ap length is_read ∙ length-read read_word 4 count page;
       fits = subst (AllByRecursion IsWord) (sym is_read) (words_fit count page is);
-      spelled = whole (4 * count) page (flat_map word_bytes words) size (omega arith) (ap (flat_map word_bytes) is_read ∙ items_spelled read_word word_bytes 4 word_again count page is (omega arith)) zeros;
+      spelled = whole (4 * count) page (flat_map bytes_of_word words) size (omega arith) (ap (flat_map bytes_of_word) is_read ∙ items_spelled read_word bytes_of_word 4 word_again count page is (omega arith)) zeros;
     }
 
 pub arcs_spelled : (nodes count : ℕ) (page : List ℕ) (arcs : List Ends) → IsBytes page → length page ≡ 4096 → count ≤ 511 → list_all (λ byte. byte == 0) (drop (8 * count) page) ≡ true
@@ -130,7 +130,7 @@ arcs_spelled nodes count page arcs is size few zeros is_read pass =
 
 -- a page that spells something is zero behind its places in use
 pub words_end : (count : ℕ) (page : List ℕ) (words : List Word) → SpelledWords count page words → list_all (λ byte. byte == 0) (drop (4 * count) page) ≡ true
-words_end count page words spells = rest_passes (4 * count) page (flat_map word_bytes words) spells.spelled (omega (arith, spells.count_is, length-items word_bytes 4 (λ x. refl) words))
+words_end count page words spells = rest_passes (4 * count) page (flat_map bytes_of_word words) spells.spelled (omega (arith, spells.count_is, length-items bytes_of_word 4 (λ x. refl) words))
 
 pub arcs_end : (nodes count : ℕ) (page : List ℕ) (arcs : List Ends) → SpelledArcs nodes count page arcs → list_all (λ byte. byte == 0) (drop (8 * count) page) ≡ true
 arcs_end nodes count page arcs spells = rest_passes (8 * count) page (flat_map ends_bytes arcs) spells.spelled (omega (arith, spells.count_is, length-items ends_bytes 8 (λ x. refl) arcs))

@@ -14,7 +14,7 @@ use Rattle.pages.specs.declared.content.Format.TheVariants.{One, Two}
 use Rattle.pages.specs.declared.content.Record.{Record}
 use Rattle.pages.specs.Grouping.{is_lay, is_of_format}
 use Rattle.pages.specs.Spelling.{record_with, command_bytes, more_byte, record_bytes, FitsRecord, MayGoOn, IsRecord, SpelledRecord}
-use Rattle.pages.specs.Reading.{command_of, read_command, read_record, read_records}
+use Rattle.pages.specs.Reading.{command_of_kind, read_command, read_record, read_records}
 
 pub length-command : (more : ℕ) (c : Command) → length (command_bytes more c) ≡ 16
 length-command more (Set k w) = refl
@@ -75,10 +75,10 @@ is_start (Some cs) = refl
 
 -- ---- what was written is read
 
-same_command : (kind a b c x y z : ℕ) → x ≡ a → y ≡ b → z ≡ c → command_of kind x y z ≡ command_of kind a b c
+same_command : (kind a b c x y z : ℕ) → x ≡ a → y ≡ b → z ≡ c → command_of_kind kind x y z ≡ command_of_kind kind a b c
 same_command kind a b c x y z p q r = rw (p, q, r) refl
 
-numbers_read : (kind more a b c : ℕ) (rest : List ℕ) → a < 2 ^ 32 → b < 2 ^ 32 → c < 2 ^ 32 → read_command (record_with kind more a b c ++ rest) ≡ command_of kind a b c
+numbers_read : (kind more a b c : ℕ) (rest : List ℕ) → a < 2 ^ 32 → b < 2 ^ 32 → c < 2 ^ 32 → read_command (record_with kind more a b c ++ rest) ≡ command_of_kind kind a b c
 numbers_read kind more a b c rest p q r =
     same_command kind a b c _ _ _ (big_number-reads_back 4 a (big_bytes 4 b ++ big_bytes 4 c ++ rest) p) (big_number-reads_back 4 b (big_bytes 4 c ++ rest) q) (big_number-reads_back 4 c rest r)
 

@@ -5,17 +5,17 @@ use Rattle.pages.specs.declared.content.Format.{Format}
 use Rattle.pages.specs.declared.content.Format.TheVariants.{One, Two}
 
 -- the number that a header has
-abbrev pub number_of : Format → ℕ
-number_of One = 1
-number_of Two = 2
+abbrev pub format_number_of : Format → ℕ
+format_number_of One = 1
+format_number_of Two = 2
 
 -- the format of a number, of which only 1 and 2 are one's
 abbrev pub format_numbered : ℕ → Format
 format_numbered number = if number == 1 then One else Two
 
 -- A network has no room besides its arcs in format 1, and its header has zero there.
-abbrev pub IsRoomFor : Format → ℕ → ℕ → Type 0
-IsRoomFor f arcs room = f ≡ One → room ≡ arcs
+abbrev pub IsHeaderRoomFor : Format → ℕ → ℕ → Type 0
+IsHeaderRoomFor f arcs room = f ≡ One → room ≡ arcs
 
 abbrev pub room_field : Format → ℕ → ℕ
 room_field One room = 0

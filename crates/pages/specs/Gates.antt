@@ -2,15 +2,15 @@
 use Rattle.std.specs.Prelude.{◌≡◌, ℕ, ◌==◌, if◌then◌else◌, List, slice_index, Option, Some, None}
 use Rattle.byteorder.specs.Endian.{big_number}
 use Rattle.disk.specs.Gated.{open_byte}
-use Rattle.pages.specs.declared.gate.Gate.{Gate}
-use Rattle.pages.specs.declared.gate.Gate.TheVariants.{Open, Closed}
+use Rattle.pages.specs.declared.gate.GateByte.{GateByte}
+use Rattle.pages.specs.declared.gate.GateByte.TheVariants.{Open, Closed}
 
 -- A gate is open at this byte, and closed at each other.
-abbrev pub gate_of : ℕ → Gate
+abbrev pub gate_of : ℕ → GateByte
 gate_of byte = if byte == open_byte then Open else Closed
 
 -- the byte by which a gate is written
-abbrev pub gate_byte : Gate → ℕ
+abbrev pub gate_byte : GateByte → ℕ
 gate_byte Open = open_byte
 gate_byte Closed = 0
 
@@ -20,4 +20,4 @@ open_number page = if slice_index page 4095 == open_byte then Some (big_number 8
 
 -- A written gate is read again.
 abbrev pub GatesReadBack : Type 0
-GatesReadBack = (gate : Gate) → gate_of (gate_byte gate) ≡ gate
+GatesReadBack = (gate : GateByte) → gate_of (gate_byte gate) ≡ gate

@@ -72,5 +72,5 @@ abbrev pub page_count : Header → ℕ
 page_count h = journal_start h + h.journal_pages
 
 -- the journal's place of the page of a sequence
-abbrev pub place_of : Header → ℕ → ℕ
-place_of h sequence = sequence % h.journal_pages
+abbrev pub journal_place_of : Header → ℕ → ℕ
+journal_place_of h sequence = sequence % h.journal_pages

@@ -34,8 +34,8 @@ abbrev pub read_word : List ℕ → Word
 read_word bytes = record { length = big_number 4 bytes % 2 ^ 31; opened = nat_lt (big_number 4 bytes) (2 ^ 31) }
 
 -- the command of this kind
-abbrev pub command_of : ℕ → ℕ → ℕ → ℕ → Option Command
-command_of kind a b c =
+abbrev pub command_of_kind : ℕ → ℕ → ℕ → ℕ → Option Command
+command_of_kind kind a b c =
     if kind == 1 then Some (Set a b) else
     if kind == 2 then Some (Close a) else
     if kind == 3 then Some (Reopen a) else
@@ -44,7 +44,7 @@ command_of kind a b c =
     if kind == 6 then Some (Lay a b c) else None
 
 abbrev pub read_command : List ℕ → Option Command
-read_command bytes = command_of (slice_index bytes 0) (big_number 4 (drop 4 bytes)) (big_number 4 (drop 8 bytes)) (big_number 4 (drop 12 bytes))
+read_command bytes = command_of_kind (slice_index bytes 0) (big_number 4 (drop 4 bytes)) (big_number 4 (drop 8 bytes)) (big_number 4 (drop 12 bytes))
 
 -- the command, and whether the byte behind the kind is not 0
 abbrev pub read_record : List ℕ → Option Record

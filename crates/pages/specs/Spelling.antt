@@ -13,7 +13,7 @@ use Rattle.pages.specs.declared.content.Word.{Word}
 use Rattle.pages.specs.declared.header.Header.{Header}
 use Rattle.pages.specs.Contents.{Head, Entry}
 use Rattle.pages.specs.Limits.{magic, most_versions, most_commands}
-use Rattle.pages.specs.Formats.{number_of, IsRoomFor, room_field, arcs_field, InTwo}
+use Rattle.pages.specs.Formats.{format_number_of, IsHeaderRoomFor, room_field, arcs_field, InTwo}
 use Rattle.pages.specs.Grouping.{records_in}
 
 unfoldable pub zeros : ℕ → List ℕ
@@ -36,7 +36,7 @@ Decodes Spelled (Some content) = Spelled content
 
 -- bytes 0 to 27: the magic, the number of the format, the nodes, the arcs that the store was made with, the journal's pages, the room
 abbrev pub header_fields : Header → List ℕ
-header_fields h = magic ++ big_bytes 4 (number_of h.format) ++ big_bytes 4 h.nodes ++ big_bytes 4 h.arcs ++ big_bytes 4 h.journal_pages ++ big_bytes 4 (room_field h.format h.room)
+header_fields h = magic ++ big_bytes 4 (format_number_of h.format) ++ big_bytes 4 h.nodes ++ big_bytes 4 h.arcs ++ big_bytes 4 h.journal_pages ++ big_bytes 4 (room_field h.format h.room)
 
 abbrev pub header_page : Header → List ℕ
 header_page h = page_of (header_fields h)
@@ -46,7 +46,7 @@ pub record IsHeader (h : Header) : Type 0 where
   pub nodes_to : h.nodes ≤ 33554432
   pub arcs_to : h.arcs ≤ h.room
   pub room_to : h.room ≤ 67108864
-  pub room_fits : IsRoomFor h.format h.arcs h.room
+  pub room_fits : IsHeaderRoomFor h.format h.arcs h.room
   pub some_page : 1 ≤ h.journal_pages
   pub pages_to : h.journal_pages ≤ 65536
 
@@ -85,11 +85,11 @@ ends_of arc = record { tail = arc.tail; head = arc.head }
 -- ---- a word page
 
 -- 4 bytes: the length, and the highest bit where the arc is closed
-abbrev pub word_bytes : Word → List ℕ
-word_bytes w = big_bytes 4 (w.length + (if w.opened then 0 else 2 ^ 31))
+abbrev pub bytes_of_word : Word → List ℕ
+bytes_of_word w = big_bytes 4 (w.length + (if w.opened then 0 else 2 ^ 31))
 
 abbrev pub word_page : List Word → List ℕ
-word_page words = page_of (flat_map word_bytes words)
+word_page words = page_of (flat_map bytes_of_word words)
 
 abbrev pub IsWord : Word → Type 0
 IsWord w = w.length < 2 ^ 31
@@ -117,7 +117,7 @@ abbrev pub head_page : Format → Head → List ℕ
 head_page f s = page_of (head_fields f s)
 
 -- the ranges of a head's numbers, the last of which is that of landmarks
-pub record AreFit (epoch version next_sequence count : ℕ) : Type 0 where
+pub record AreHeadNumbersFit (epoch version next_sequence count : ℕ) : Type 0 where
   pub epoch_from : 1 ≤ epoch
   pub epoch_to : epoch ≤ next_sequence + 1
   pub sequence_to : next_sequence ≤ version
@@ -130,7 +130,7 @@ AreArcsOf h arcs = (h.arcs ≤ arcs) × (arcs ≤ h.room)
 
 -- the head of a slot of a store of these sizes
 pub record IsHead (h : Header) (s : Head) : Type 0 where
-  pub numbers : AreFit s.epoch s.version s.next_sequence (length s.landmarks)
+  pub numbers : AreHeadNumbersFit s.epoch s.version s.next_sequence (length s.landmarks)
   pub arcs : AreArcsOf h s.arcs
   pub ascending : IsStrictlyIncreasing s.landmarks
   pub each : AllByRecursion (λ x. (1 ≤ x) × (x ≤ h.nodes)) s.landmarks

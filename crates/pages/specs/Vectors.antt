@@ -6,7 +6,7 @@ use Rattle.pages.specs.declared.header.Header.{Header}
 use Rattle.pages.specs.declared.content.Format.TheVariants.{One, Two}
 use Rattle.pages.specs.declared.content.Record.{Record}
 use Rattle.pages.specs.declared.content.Slot.TheVariants.{A, B}
-use Rattle.pages.specs.Spelling.{page_of, header_fields, header_page, word_bytes, ends_bytes, head_fields, entry_page, record_bytes}
+use Rattle.pages.specs.Spelling.{page_of, header_fields, header_page, bytes_of_word, ends_bytes, head_fields, entry_page, record_bytes}
 use Rattle.pages.specs.Grouping.{records_in, grouped}
 use Rattle.pages.specs.Layout.{HeadOf, EndsOf, Journal, page_number, page_count}
 
@@ -19,8 +19,8 @@ abbrev pub old_six : ℕ → Header
 old_six journal_pages = record { format = One; nodes = 6; arcs = 8; room = 8; journal_pages = journal_pages }
 
 -- a record of a group that ends with it
-abbrev pub alone : Command → Record
-alone command = record { command = command; goes_on = false }
+abbrev pub lone_record : Command → Record
+lone_record command = record { command = command; goes_on = false }
 
 pub record LayoutExamples : Type 0 where
   pub slot_a : page_number (six 8 64) (HeadOf A) ≡ 2
@@ -46,19 +46,19 @@ pub record PageExamples : Type 0 where
   pub header : header_fields (six 8 64) ≡ 0x52 ∷ 0x4f ∷ 0x41 ∷ 0x44 ∷ 0x4d ∷ 0x52 ∷ 0x4b ∷ 0x31 ∷ 0 ∷ 0 ∷ 0 ∷ 2 ∷ 0 ∷ 0 ∷ 0 ∷ 6 ∷ 0 ∷ 0 ∷ 0 ∷ 8 ∷ 0 ∷ 0 ∷ 0 ∷ 0x40 ∷ 0 ∷ 0 ∷ 0 ∷ 8 ∷ []
   pub old_header : header_page (old_six 64) ≡ page_of (0x52 ∷ 0x4f ∷ 0x41 ∷ 0x44 ∷ 0x4d ∷ 0x52 ∷ 0x4b ∷ 0x31 ∷ 0 ∷ 0 ∷ 0 ∷ 1 ∷ 0 ∷ 0 ∷ 0 ∷ 6 ∷ 0 ∷ 0 ∷ 0 ∷ 8 ∷ 0 ∷ 0 ∷ 0 ∷ 0x40 ∷ [])
   pub ends : ends_bytes (record { tail = 5; head = 6 }) ≡ 0 ∷ 0 ∷ 0 ∷ 5 ∷ 0 ∷ 0 ∷ 0 ∷ 6 ∷ []
-  pub word : word_bytes (record { length = 17; opened = true }) ≡ 0 ∷ 0 ∷ 0 ∷ 0x11 ∷ []
-  pub closed : word_bytes (record { length = 0; opened = false }) ≡ 0x80 ∷ 0 ∷ 0 ∷ 0 ∷ []
-  pub longest_closed : word_bytes (record { length = 2147483647; opened = false }) ≡ 0xff ∷ 0xff ∷ 0xff ∷ 0xff ∷ []
+  pub word : bytes_of_word (record { length = 17; opened = true }) ≡ 0 ∷ 0 ∷ 0 ∷ 0x11 ∷ []
+  pub closed : bytes_of_word (record { length = 0; opened = false }) ≡ 0x80 ∷ 0 ∷ 0 ∷ 0 ∷ []
+  pub longest_closed : bytes_of_word (record { length = 2147483647; opened = false }) ≡ 0xff ∷ 0xff ∷ 0xff ∷ 0xff ∷ []
   pub head : head_fields Two (record { epoch = 1; version = 0; next_sequence = 0; arcs = 8; landmarks = [] }) ≡ replicate 7 0 ++ 1 ∷ replicate 20 0 ++ 0 ∷ 0 ∷ 0 ∷ 8 ∷ []
   pub old_head : head_fields One (record { epoch = 1; version = 0; next_sequence = 0; arcs = 8; landmarks = [] }) ≡ replicate 7 0 ++ 1 ∷ replicate 20 0
   pub head_with_landmarks : head_fields Two (record { epoch = 1; version = 0; next_sequence = 0; arcs = 8; landmarks = 3 ∷ 6 ∷ [] }) ≡ replicate 7 0 ++ 1 ∷ replicate 16 0 ++ 0 ∷ 0 ∷ 0 ∷ 2 ∷ 0 ∷ 0 ∷ 0 ∷ 8 ∷ 0 ∷ 0 ∷ 0 ∷ 3 ∷ 0 ∷ 0 ∷ 0 ∷ 6 ∷ []
   pub head_after_checkpoint : head_fields Two (record { epoch = 2; version = 1; next_sequence = 1; arcs = 8; landmarks = [] }) ≡ replicate 7 0 ++ 2 ∷ replicate 7 0 ++ 1 ∷ replicate 7 0 ++ 1 ∷ replicate 4 0 ++ 0 ∷ 0 ∷ 0 ∷ 8 ∷ []
   pub entry : entry_page (record { sequence = 0; first_number = 1; groups = (Close 7 ∷ []) ∷ [] }) ≡ page_of (replicate 15 0 ++ 1 ∷ 0 ∷ 1 ∷ replicate 14 0 ++ 2 ∷ 0 ∷ 0 ∷ 0 ∷ 0 ∷ 0 ∷ 0 ∷ 7 ∷ replicate 8 0)
-  pub set : record_bytes (alone (Set 8 4)) ≡ 1 ∷ 0 ∷ 0 ∷ 0 ∷ 0 ∷ 0 ∷ 0 ∷ 8 ∷ 0 ∷ 0 ∷ 0 ∷ 4 ∷ 0 ∷ 0 ∷ 0 ∷ 0 ∷ []
-  pub reopen : record_bytes (alone (Reopen 7)) ≡ 3 ∷ 0 ∷ 0 ∷ 0 ∷ 0 ∷ 0 ∷ 0 ∷ 7 ∷ replicate 8 0
-  pub mark : record_bytes (alone (Mark 3)) ≡ 4 ∷ 0 ∷ 0 ∷ 0 ∷ 0 ∷ 0 ∷ 0 ∷ 3 ∷ replicate 8 0
-  pub unmark : record_bytes (alone (Unmark 3)) ≡ 5 ∷ 0 ∷ 0 ∷ 0 ∷ 0 ∷ 0 ∷ 0 ∷ 3 ∷ replicate 8 0
-  pub lay : record_bytes (alone (Lay 6 1 7)) ≡ 6 ∷ 0 ∷ 0 ∷ 0 ∷ 0 ∷ 0 ∷ 0 ∷ 6 ∷ 0 ∷ 0 ∷ 0 ∷ 1 ∷ 0 ∷ 0 ∷ 0 ∷ 7 ∷ []
+  pub set : record_bytes (lone_record (Set 8 4)) ≡ 1 ∷ 0 ∷ 0 ∷ 0 ∷ 0 ∷ 0 ∷ 0 ∷ 8 ∷ 0 ∷ 0 ∷ 0 ∷ 4 ∷ 0 ∷ 0 ∷ 0 ∷ 0 ∷ []
+  pub reopen : record_bytes (lone_record (Reopen 7)) ≡ 3 ∷ 0 ∷ 0 ∷ 0 ∷ 0 ∷ 0 ∷ 0 ∷ 7 ∷ replicate 8 0
+  pub mark : record_bytes (lone_record (Mark 3)) ≡ 4 ∷ 0 ∷ 0 ∷ 0 ∷ 0 ∷ 0 ∷ 0 ∷ 3 ∷ replicate 8 0
+  pub unmark : record_bytes (lone_record (Unmark 3)) ≡ 5 ∷ 0 ∷ 0 ∷ 0 ∷ 0 ∷ 0 ∷ 0 ∷ 3 ∷ replicate 8 0
+  pub lay : record_bytes (lone_record (Lay 6 1 7)) ≡ 6 ∷ 0 ∷ 0 ∷ 0 ∷ 0 ∷ 0 ∷ 0 ∷ 6 ∷ 0 ∷ 0 ∷ 0 ∷ 1 ∷ 0 ∷ 0 ∷ 0 ∷ 7 ∷ []
   -- the page of a group of two, and of the groups of one
   pub group : map record_bytes (records_in ((Close 7 ∷ Set 8 4 ∷ []) ∷ [])) ≡ (2 ∷ 1 ∷ 0 ∷ 0 ∷ 0 ∷ 0 ∷ 0 ∷ 7 ∷ replicate 8 0) ∷ (1 ∷ 0 ∷ 0 ∷ 0 ∷ 0 ∷ 0 ∷ 0 ∷ 8 ∷ 0 ∷ 0 ∷ 0 ∷ 4 ∷ replicate 4 0) ∷ []
   pub group_again : grouped (records_in ((Close 7 ∷ Set 8 4 ∷ []) ∷ (Reopen 7 ∷ []) ∷ [])) ≡ (Close 7 ∷ Set 8 4 ∷ []) ∷ (Reopen 7 ∷ []) ∷ []

@@ -9,11 +9,11 @@ pub enum Format {
 
 impl Format {
     ghost use Rattle.std.specs.Prelude.{◌≡◌};
-    ghost use Rattle.pages.specs.Formats.{number_of, format_numbered};
+    ghost use Rattle.pages.specs.Formats.{format_number_of, format_numbered};
 
     /// The number of the format, as a header has it.
     pub fn number(self) -> u32
-        ensures { result ≡ number_of self }
+        ensures { result ≡ format_number_of self }
     {
         match self {
             Format::One => 1,

@@ -3,7 +3,7 @@ ghost use Rattle.std.specs.Str.{bytes_eq};
 ghost use Rattle.byteorder.specs.Endian.{big_number};
 ghost use Rattle.pages.specs.Spelling.{body, header_page, Decodes, IsHeader, SpelledHeader};
 ghost use Rattle.pages.specs.Reading.{read_header};
-ghost use Rattle.pages.specs.Formats.{IsRoomFor, room_field, room_read};
+ghost use Rattle.pages.specs.Formats.{IsHeaderRoomFor, room_field, room_read};
 ghost use Rattle.pages.specs.Limits.{magic};
 
 use crate::content::Format;
@@ -40,7 +40,7 @@ pub struct Header {
 }
 
 fn is_room(format: Format, arcs: u32, room: u32) -> bool
-    ensures { IsTrue result ↔ IsRoomFor format arcs room }
+    ensures { IsTrue result ↔ IsHeaderRoomFor format arcs room }
 {
     match format {
         Format::One => room == arcs,

@@ -1,5 +1,5 @@
 ghost use Rattle.std.specs.Prelude.{◌≡◌, ◌-◌, ◌<◌, ◌≤◌};
-ghost use Rattle.pages.specs.Layout.{Arcs, HeadOf, Words, EndsOf, Journal, arc_pages, word_pages, end_pages, slot_pages, page_number, page_count, place_of, places_in_use};
+ghost use Rattle.pages.specs.Layout.{Arcs, HeadOf, Words, EndsOf, Journal, arc_pages, word_pages, end_pages, slot_pages, page_number, page_count, journal_place_of, places_in_use};
 
 use crate::content::Slot;
 use crate::header::Header;
@@ -87,7 +87,7 @@ impl Header {
     /// The number of the journal's page of this sequence.
     pub fn journal_page(&self, sequence: u64) -> u64
         requires { 1 ≤ self.now.journal_pages }
-        ensures { result ≡ page_number self.now (Journal (place_of self.now sequence)) }
+        ensures { result ≡ page_number self.now (Journal (journal_place_of self.now sequence)) }
     {
         self.journal_start() + sequence % u64::from(self.journal_pages)
     }

@@ -14,7 +14,7 @@ mod writer;
 
 pub use arc_page::{ArcPage, decode_arc_page, encode_arc_page};
 pub use content::{Ends, Format, Record, Slot, Word};
-pub use gate::{GATE_AT, Gate, gate_of, open_number};
+pub use gate::{GATE_AT, GateByte, gate_of, open_number};
 pub use header::{Header, decode_header, encode_header, format_of, has_magic};
 pub use journal_page::{JournalPage, MOST_COMMANDS, decode_journal_page, encode_journal_page};
 pub use laws::{parts_fill_the_file, spelling_is_one_to_one, worked_pages};

@@ -2,7 +2,7 @@ ghost use Rattle.std.specs.Prelude.{◌≡◌, ◌+◌, ◌*◌, ◌≤◌, ◌+
 ghost use Rattle.std.specs.List.{list_all};
 ghost use Rattle.std.specs.List.Sorted.{IsStrictlyIncreasing};
 ghost use Rattle.byteorder.specs.Endian.{big_number};
-ghost use Rattle.pages.specs.Spelling.{body, AreFit, AreArcsOf, IsHeader, Decodes, SpelledHead, head_front, head_page};
+ghost use Rattle.pages.specs.Spelling.{body, AreHeadNumbersFit, AreArcsOf, IsHeader, Decodes, SpelledHead, head_front, head_page};
 ghost use Rattle.pages.specs.Formats.{arcs_field, arcs_read, landmarks_at};
 ghost use Rattle.pages.specs.Reading.{read_items};
 
@@ -76,7 +76,7 @@ impl SlotHead {
 }
 
 fn are_fit(epoch: u64, version: u64, next_sequence: u64, count: u32) -> bool
-    ensures { IsTrue result ↔ AreFit epoch version next_sequence count }
+    ensures { IsTrue result ↔ AreHeadNumbersFit epoch version next_sequence count }
 {
     (1..=next_sequence.saturating_add(1)).contains(&epoch)
         && next_sequence <= version

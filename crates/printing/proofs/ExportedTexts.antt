@@ -14,7 +14,7 @@ use Rattle.dimacs.specs.Texts.{content_by}
 use Rattle.printing.specs.declared.exports.Exported.TheVariants.{Network, Landmarks, Closings}
 use Rattle.printing.specs.declared.exports.Origin.{Origin}
 use Rattle.printing.specs.Chosen.{closed_arcs}
-use Rattle.printing.specs.Exports.{text_of, IsOrigin, heading, counts_row, count_row, arc_row, landmark_row, closing_row, network_rows, landmark_rows, closing_rows, Says, Writes}
+use Rattle.printing.specs.Exports.{text_of, IsOrigin, heading, counts_row, count_row, arc_row, landmark_row, closing_row, network_rows, landmark_rows, closing_rows, SaysExported, WritesText}
 use Rattle.printing.proofs.PrintedRows.{IsField, IsLine, rows_back, word_is_field}
 use Rattle.printing.proofs.PrintedNumerals.{number_is_field}
 use Rattle.printing.proofs.PrintedNetwork.{network_back}
@@ -74,7 +74,7 @@ module _ (net : Net) (is : IsNetwork net) (origin : Origin) (of : IsOrigin origi
   few_arcs = let arcs = is.arcs_to in let room = is.room_to in omega (arith, arcs, room)
 
   -- ---- what each text says
-  pub network_says : Says Network net (text_of (network_rows net origin))
+  pub network_says : SaysExported Network net (text_of (network_rows net origin))
   network_says =
       let nodes = is.nodes_to in
       let first = heading_line (codes "c") net.room origin (word_is_field (codes "c") refl) is.room_to of in
@@ -83,7 +83,7 @@ module _ (net : Net) (is : IsNetwork net) (origin : Origin) (of : IsOrigin origi
       ap content_of (rows_back (network_rows net origin) (first, (second, arc_lines net.nodes is.nodes_to net.arcs (recursion_from_All (IsArcAmong net.nodes) net.arcs is.each_arc))))
       ∙ network_back net is origin
 
-  pub landmarks_say : Says Landmarks net (text_of (landmark_rows net origin))
+  pub landmarks_say : SaysExported Landmarks net (text_of (landmark_rows net origin))
   landmarks_say =
       let few = is.landmarks_to in
       let first = heading_line (codes "c") net.room origin (word_is_field (codes "c") refl) is.room_to of in
@@ -92,12 +92,12 @@ module _ (net : Net) (is : IsNetwork net) (origin : Origin) (of : IsOrigin origi
       ap (content_by (ss_text net.nodes)) (rows_back (landmark_rows net origin) (first, (second, landmark_lines net.nodes is.nodes_to net.landmarks (recursion_from_All (λ x. (1 ≤ x) × (x ≤ net.nodes)) net.landmarks is.each_landmark))))
       ∙ landmarks_back net is origin
 
-  pub closings_say : Says Closings net (text_of (closing_rows net origin))
+  pub closings_say : SaysExported Closings net (text_of (closing_rows net origin))
   closings_say =
       let small = small_from 1 net.arcs (omega (arith, few_arcs)) in
       ap (content_by group_text) (rows_back (closing_rows net origin) (heading_line (codes "#") net.room origin (word_is_field (codes "#") refl) is.room_to of, closing_lines (closed_arcs net.arcs) small))
       ∙ closings_back net.room origin (closed_arcs net.arcs) small
 
-pub on_writes : {X E : Type 0} (r : Result X E) (P : List ℕ → Type 0) (old new : Option (List ℕ)) (text : List ℕ) → P text → OnOk r (Appends old new text) → OnOk r (Writes P old new)
+pub on_writes : {X E : Type 0} (r : Result X E) (P : List ℕ → Type 0) (old new : Option (List ℕ)) (text : List ℕ) → P text → OnOk r (Appends old new text) → OnOk r (WritesText P old new)
 on_writes (Ok x) P old new text says written = record { text = text; written = written; says = says }
 on_writes (Err e) P old new text says written = tt

@@ -9,7 +9,7 @@ use Rattle.std.proofs.lemmas.List.{take_more, length-append, length-take, map-ap
 use Rattle.std.proofs.lemmas.List.Elements.{filter-append}
 use Rattle.roadnet.specs.declared.arcs.RoadArc.{RoadArc}
 use Rattle.dimacs.specs.Faults.{Row}
-use Rattle.printing.specs.Exports.{line_of, text_of}
+use Rattle.printing.specs.Exports.{text_line_of, text_of}
 use Rattle.printing.specs.Chosen.{arcs_where}
 
 enumerate_push : (n : ℕ) (arcs : List RoadArc) (arc : RoadArc) → enumerate_from n (arcs ++ arc ∷ []) ≡ enumerate_from n arcs ++ (n + length arcs, arc) ∷ []
@@ -70,23 +70,23 @@ counted_no test arcs i d count lt fails is =
     is ∙ ap length (sym (append-nil (arcs_where test (take i arcs)))) ∙ sym (ap length same)
 
 -- ---- the same of lines
-of_rows : {X : Type 0} (row : X → Row) (xs : List X) → text_of (map row xs) ≡ flat_map (λ x. line_of (row x)) xs
+of_rows : {X : Type 0} (row : X → Row) (xs : List X) → text_of (map row xs) ≡ flat_map (λ x. text_line_of (row x)) xs
 of_rows row [] = refl
-of_rows row (x ∷ xs) = ap (λ (l : List ℕ). line_of (row x) ++ l) (of_rows row xs)
+of_rows row (x ∷ xs) = ap (λ (l : List ℕ). text_line_of (row x) ++ l) (of_rows row xs)
 
 pub row_written : {X : Type 0} (row : X → Row) (xs : List X) (i : ℕ) (d : X) (old mid new : Option (List ℕ)) → i < length xs
-    → Appends old mid (text_of (map row (take i xs))) → Appends mid new (line_of (row (get_or xs i d))) → Appends old new (text_of (map row (take (i + 1) xs)))
+    → Appends old mid (text_of (map row (take i xs))) → Appends mid new (text_line_of (row (get_or xs i d))) → Appends old new (text_of (map row (take (i + 1) xs)))
 row_written row xs i d old mid new lt before here =
-    let more : text_of (map row (take (i + 1) xs)) ≡ text_of (map row (take i xs)) ++ line_of (row (get_or xs i d)) =
+    let more : text_of (map row (take (i + 1) xs)) ≡ text_of (map row (take i xs)) ++ text_line_of (row (get_or xs i d)) =
     ap (λ (l : List _). text_of (map row l)) (take_more xs i d lt)
     ∙ of_rows row (take i xs ++ get_or xs i d ∷ [])
-    ∙ flat_map-append (λ x. line_of (row x)) (take i xs) (get_or xs i d ∷ [])
-    ∙ ap (λ (l : List ℕ). flat_map (λ x. line_of (row x)) (take i xs) ++ l) (append-nil (line_of (row (get_or xs i d))))
-    ∙ ap (λ (l : List ℕ). l ++ line_of (row (get_or xs i d))) (sym (of_rows row (take i xs))) in
+    ∙ flat_map-append (λ x. text_line_of (row x)) (take i xs) (get_or xs i d ∷ [])
+    ∙ ap (λ (l : List ℕ). flat_map (λ x. text_line_of (row x)) (take i xs) ++ l) (append-nil (text_line_of (row (get_or xs i d))))
+    ∙ ap (λ (l : List ℕ). l ++ text_line_of (row (get_or xs i d))) (sym (of_rows row (take i xs))) in
     subst (Appends old new) (sym more) (Appends-trans old mid new _ _ before here)
 
 pub number_written : (test : RoadArc → Bool) (row : ℕ → Row) (arcs : List RoadArc) (i : ℕ) (d : RoadArc) (old mid new : Option (List ℕ)) → i < length arcs
-    → Appends old mid (text_of (map row (arcs_where test (take i arcs)))) → Appends mid new (cond (test (get_or arcs i d)) (line_of (row (i + 1))) []) → Appends old new (text_of (map row (arcs_where test (take (i + 1) arcs))))
+    → Appends old mid (text_of (map row (arcs_where test (take i arcs)))) → Appends mid new (cond (test (get_or arcs i d)) (text_line_of (row (i + 1))) []) → Appends old new (text_of (map row (arcs_where test (take (i + 1) arcs))))
 number_written test row arcs i d old mid new lt before here =
     subst (Appends old new) (sym (of_rows row (arcs_where test (take (i + 1) arcs))))
-    (written_more test (λ k. line_of (row k)) arcs i d old mid new lt (subst (Appends old mid) (of_rows row (arcs_where test (take i arcs))) before) here)
+    (written_more test (λ k. text_line_of (row k)) arcs i d old mid new lt (subst (Appends old mid) (of_rows row (arcs_where test (take i arcs))) before) here)

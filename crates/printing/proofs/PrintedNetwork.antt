@@ -10,7 +10,7 @@ use Rattle.roadnet.specs.declared.arcs.RoadArc.{RoadArc}
 use Rattle.roadnet.specs.Net.{Net, IsNetwork, IsArcAmong, most_nodes, most_arcs, longest_arc}
 use Rattle.dimacs.specs.declared.numerals.numeral.Numeral.{Numeral}
 use Rattle.dimacs.specs.declared.graphs.problem.Problem.{Problem}
-use Rattle.dimacs.specs.Content.{arc_from, arc_of, network_of, content_of}
+use Rattle.dimacs.specs.Content.{arc_of_line, arc_of, network_of, content_of}
 use Rattle.dimacs.specs.Faults.{Row, problem_of, announced, items_of, applies, code_of, first_fault, end_code}
 use Rattle.dimacs.specs.Format.{gr}
 use Rattle.dimacs.specs.Numerals.{kept}
@@ -19,7 +19,7 @@ use Rattle.dimacs.proofs.Items.{kept_is, item_row, problem_kept, items_push, fil
 use Rattle.dimacs.proofs.NodeRows.{code_and_value}
 use Rattle.dimacs.proofs.Problems.{problem_row}
 use Rattle.printing.specs.declared.exports.Origin.{Origin}
-use Rattle.printing.specs.Exports.{heading, counts_row, arc_row, opened, all_open, network_rows}
+use Rattle.printing.specs.Exports.{heading, counts_row, arc_row, opened_arc, all_open, network_rows}
 use Rattle.printing.proofs.PrintedNumerals.{number_back}
 
 abbrev pub number : ℕ → Numeral
@@ -31,7 +31,7 @@ kept_number n small = kept_is (number n) (le-ltb (2 ^ 63 - 1) n (omega (arith, s
 abbrev numbers_of : RoadArc → Row
 numbers_of arc = decimal arc.tail ∷ decimal arc.head ∷ decimal arc.length ∷ []
 
-arc_said : (arc : RoadArc) → arc.tail < 2 ^ 64 → arc.head < 2 ^ 64 → arc.length < 2 ^ 64 → arc_from (numbers_of arc) ≡ opened arc
+arc_said : (arc : RoadArc) → arc.tail < 2 ^ 64 → arc.head < 2 ^ 64 → arc.length < 2 ^ 64 → arc_of_line (numbers_of arc) ≡ opened_arc arc
 arc_said arc t h w = rw (number_back arc.tail t, number_back arc.head h, number_back arc.length w) refl
 
 three_read : (t h w : ℕ) → t < 2 ^ 63 → h < 2 ^ 63 → w < 2 ^ 63 → three_numerals (decimal t ∷ decimal h ∷ decimal w ∷ []) ≡ Some (number t, number h, number w)
@@ -44,7 +44,7 @@ two_read n m nodes items =
     rw (number_back n (omega (arith, nodes)), number_back m (omega (arith, items))) (rw (kept_number n nodes, kept_number m items) refl)
 
 arc_read : (p : Problem) (taken : ℕ) (arc : RoadArc) → p.nodes ≤ most_nodes → IsArcAmong p.nodes arc → taken < p.items
-    → item_after (Some p) taken (three_numerals (numbers_of arc)) ≡ Ok (opened arc)
+    → item_after (Some p) taken (three_numerals (numbers_of arc)) ≡ Ok (opened_arc arc)
 arc_read p taken arc few is within =
     let t1 = is.tail_from in
     let t2 = is.tail_to in
@@ -74,10 +74,10 @@ record Stands (earlier : List Row) (p : Problem) (done : List RoadArc) : Type 0 
 
 module _ (p : Problem) (few : p.nodes ≤ most_nodes) where
   arc_stands : (earlier : List Row) (done : List RoadArc) (arc : RoadArc) → Stands earlier p done → IsArcAmong p.nodes arc → length done < p.items
-      → (code_of gr earlier (arc_row arc) ≡ None) × Stands (earlier ++ arc_row arc ∷ []) p (done ++ opened arc ∷ [])
+      → (code_of gr earlier (arc_row arc) ≡ None) × Stands (earlier ++ arc_row arc ∷ []) p (done ++ opened_arc arc ∷ [])
   arc_stands earlier done arc so_far is within =
       let read = item_row earlier (Some p) (numbers_of arc) so_far.problem so_far.counts ∙ rw so_far.items (arc_read p (length done) arc few is within) in
-      let right = code_and_value (code_of gr earlier (arc_row arc)) (arc_from (numbers_of arc)) (opened arc) read in (
+      let right = code_and_value (code_of gr earlier (arc_row arc)) (arc_of_line (numbers_of arc)) (opened_arc arc) read in (
         right.0,
         record {
           problem = rw (problem_kept earlier (arc_row arc) refl) so_far.problem;
@@ -88,14 +88,14 @@ module _ (p : Problem) (few : p.nodes ≤ most_nodes) where
       )
 
   arcs_stand : (earlier : List Row) (done rest : List RoadArc) → Stands earlier p done → AllByRecursion (IsArcAmong p.nodes) rest → length done + length rest ≤ p.items
-      → (first_fault (code_of gr) earlier (map arc_row rest) ≡ None) × Stands (earlier ++ map arc_row rest) p (done ++ map opened rest)
+      → (first_fault (code_of gr) earlier (map arc_row rest) ≡ None) × Stands (earlier ++ map arc_row rest) p (done ++ map opened_arc rest)
   arcs_stand earlier done [] so_far all within = (refl, rw (append-nil earlier, append-nil done) so_far)
   arcs_stand earlier done (arc ∷ rest) so_far all within =
       let step = arc_stands earlier done arc so_far all.0 (omega (arith, within)) in
-      let longer : length (done ++ opened arc ∷ []) ≡ length done + 1 = length-append done (opened arc ∷ []) in
-      let later = arcs_stand (earlier ++ arc_row arc ∷ []) (done ++ opened arc ∷ []) rest step.1 all.1 (omega (arith, longer, within)) in (
+      let longer : length (done ++ opened_arc arc ∷ []) ≡ length done + 1 = length-append done (opened_arc arc ∷ []) in
+      let later = arcs_stand (earlier ++ arc_row arc ∷ []) (done ++ opened_arc arc ∷ []) rest step.1 all.1 (omega (arith, longer, within)) in (
         rw step.0 later.0,
-        rw (append_assoc earlier (arc_row arc ∷ []) (map arc_row rest), append_assoc done (opened arc ∷ []) (map opened rest)) at later.1,
+        rw (append_assoc earlier (arc_row arc ∷ []) (map arc_row rest), append_assoc done (opened_arc arc ∷ []) (map opened_arc rest)) at later.1,
       )
 
 whole : (p : Problem) (lines : List Row) (arcs : List RoadArc) → first_fault (code_of gr) [] lines ≡ None → Stands lines p arcs → length arcs ≡ p.items
@@ -145,5 +145,5 @@ module _ (net : Net) (is : IsNetwork net) (origin : Origin) where
   network_back =
       let all = arcs_stand counts is.nodes_to first_rows [] net.arcs begun (recursion_from_All (IsArcAmong net.nodes) net.arcs is.each_arc) (omega arith) in
       let clean : first_fault (code_of gr) [] (network_rows net origin) ≡ None = rw (heading_stands net.room origin, counts_stand) all.0 in
-      let same = length-map net.arcs opened in
-      whole counts (network_rows net origin) (map opened net.arcs) clean all.1 same ∙ ap (λ (room : ℕ). Ok (record { nodes = net.nodes; arcs = map opened net.arcs; landmarks = []; room = room })) same
+      let same = length-map net.arcs opened_arc in
+      whole counts (network_rows net origin) (map opened_arc net.arcs) clean all.1 same ∙ ap (λ (room : ℕ). Ok (record { nodes = net.nodes; arcs = map opened_arc net.arcs; landmarks = []; room = room })) same

@@ -8,7 +8,7 @@ use Rattle.std.proofs.lemmas.List.Elements.{All-nil, All-cons, All-append, All-w
 use Rattle.std.proofs.lemmas.List.Splits.{slice_split_at, slice_split_none, slice_split-cons_yes, slice_split-cons_no}
 use Rattle.dimacs.specs.Faults.{Row}
 use Rattle.dimacs.specs.Lines.{is_blank, is_line_feed, is_not_empty, without_empty_last, fields, lines, rows}
-use Rattle.printing.specs.Exports.{line_of, text_of}
+use Rattle.printing.specs.Exports.{text_line_of, text_of}
 
 -- a byte above each blank and each end of a line
 abbrev pub IsMark : ℕ → Type 0
@@ -88,14 +88,14 @@ line_back line more some all =
     rw (cut, last_of_split) (ap (λ (l : List ℕ). l ∷ lines more) (unended line some all))
 
 -- ---- all lines
-joined : (field : List ℕ) (others : Row) (more : List ℕ) → line_of (field ∷ others) ++ more ≡ join_with_byte 32 (field ∷ others) ++ 10 ∷ more
+joined : (field : List ℕ) (others : Row) (more : List ℕ) → text_line_of (field ∷ others) ++ more ≡ join_with_byte 32 (field ∷ others) ++ 10 ∷ more
 joined field [] more = append_assoc field (10 ∷ []) more
 joined field (next ∷ others) more =
-    append_assoc field (32 ∷ line_of (next ∷ others)) more
+    append_assoc field (32 ∷ text_line_of (next ∷ others)) more
     ∙ ap (λ (l : List ℕ). field ++ 32 ∷ l) (joined next others more)
     ∙ sym (append_assoc field (32 ∷ join_with_byte 32 (next ∷ others)) (10 ∷ more))
 
-row_back : (row : Row) (more : List ℕ) → IsLine row → rows (line_of row ++ more) ≡ row ∷ rows more
+row_back : (row : Row) (more : List ℕ) → IsLine row → rows (text_line_of row ++ more) ≡ row ∷ rows more
 row_back [] more is = absurd is
 row_back (field ∷ others) more is =
     let line = join_with_byte 32 (field ∷ others) in

@@ -20,14 +20,14 @@ use Rattle.printing.specs.declared.exports.Origin.{Origin}
 use Rattle.printing.specs.Chosen.{closed_arcs}
 
 -- a line: its fields with one blank between each two, and a line feed
-abbrev pub line_of : Row → List ℕ
-line_of [] = codes "\n"
-line_of (field ∷ []) = field ++ codes "\n"
-line_of (field ∷ next ∷ more) = field ++ 32 ∷ line_of (next ∷ more)
+abbrev pub text_line_of : Row → List ℕ
+text_line_of [] = codes "\n"
+text_line_of (field ∷ []) = field ++ codes "\n"
+text_line_of (field ∷ next ∷ more) = field ++ 32 ∷ text_line_of (next ∷ more)
 
 -- the text of these lines
 abbrev pub text_of : List Row → List ℕ
-text_of rs = flat_map line_of rs
+text_of rs = flat_map text_line_of rs
 
 -- ---- the lines
 
@@ -78,29 +78,29 @@ exported_rows Closings net origin = closing_rows net origin
 -- ---- what the texts say to who reads them
 
 -- the arc, open
-abbrev pub opened : RoadArc → RoadArc
-opened arc = record arc { opened = true }
+abbrev pub opened_arc : RoadArc → RoadArc
+opened_arc arc = record arc { opened = true }
 
 -- the network with each arc open, without landmarks and without room for more arcs
 abbrev pub all_open : Net → Net
-all_open net = record { nodes = net.nodes; arcs = map opened net.arcs; landmarks = []; room = length net.arcs }
+all_open net = record { nodes = net.nodes; arcs = map opened_arc net.arcs; landmarks = []; room = length net.arcs }
 
 -- each of these arcs is closed, by a group of its own
 abbrev pub closings : List ℕ → List (List Command)
 closings numbers = map (λ k. Close k ∷ []) numbers
 
 -- the text gives the network with each arc open; or its landmarks; or it closes just its closed arcs
-abbrev pub Says : Exported → Net → List ℕ → Type 0
-Says Network net text = content text ≡ Ok (all_open net)
-Says Landmarks net text = content_by (ss_text net.nodes) (rows text) ≡ Ok net.landmarks
-Says Closings net text = content_by group_text (rows text) ≡ Ok (closings (closed_arcs net.arcs))
+abbrev pub SaysExported : Exported → Net → List ℕ → Type 0
+SaysExported Network net text = content text ≡ Ok (all_open net)
+SaysExported Landmarks net text = content_by (ss_text net.nodes) (rows text) ≡ Ok net.landmarks
+SaysExported Closings net text = content_by group_text (rows text) ≡ Ok (closings (closed_arcs net.arcs))
 
 -- a text that says this is written, and nothing else
-pub record Writes (P : List ℕ → Type 0) (old new : Option (List ℕ)) : Type 0 where
+pub record WritesText (P : List ℕ → Type 0) (old new : Option (List ℕ)) : Type 0 where
   pub text : List ℕ
   pub written : Appends old new text
   pub says : P text
 
 -- The network that has each arc open, with these landmarks and this room, is this one once its closed arcs are closed.
 abbrev pub ClosingRestores : Type 0
-ClosingRestores = (net : Net) → after (record net { arcs = map opened net.arcs }) (closings (closed_arcs net.arcs)) ≡ Some net
+ClosingRestores = (net : Net) → after (record net { arcs = map opened_arc net.arcs }) (closings (closed_arcs net.arcs)) ≡ Some net

@@ -8,9 +8,9 @@ use Rattle.printing.specs.declared.failed.Failed.{Failed}
 use Rattle.printing.specs.declared.failed.Failed.TheVariants.{Text, Code}
 
 -- what reading a text gave, its fault told of the text with this number
-abbrev pub told_of : {X : Type 0} → ℕ → Result X Fault → Result X Failed
-told_of which (Ok x) = Ok x
-told_of which (Err fault) = Err (Text which fault)
+abbrev pub fault_told_of : {X : Type 0} → ℕ → Result X Fault → Result X Failed
+fault_told_of which (Ok x) = Ok x
+fault_told_of which (Err fault) = Err (Text which fault)
 
 -- the reader's count of failed calls is one more where a failed read is told, and else as it was
 abbrev pub CountsReads : {X : Type 0} → ℕ → ℕ → Result X Failed → Type 0

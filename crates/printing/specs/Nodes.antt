@@ -14,15 +14,15 @@ abbrev pub count_line : List ℕ → ℕ → ℕ → List ℕ
 count_line word node count = word ++ decimal node ++ number_line (codes " ") count
 
 -- `d S T L` of a walk from this source to the node, or from the node to this target
-abbrev pub line_from : ℕ → NodeDistance → List ℕ
-line_from source near = answer_line (Dist source near.node) (Length near.distance)
+abbrev pub reach_line_from : ℕ → NodeDistance → List ℕ
+reach_line_from source near = answer_line (Dist source near.node) (Length near.distance)
 
 abbrev pub line_to : ℕ → NodeDistance → List ℕ
 line_to target near = answer_line (Dist near.node target) (Length near.distance)
 
 -- `reach S C`, and C lines `d S T L`
 abbrev pub reach_lines : ℕ → List NodeDistance → List ℕ
-reach_lines source told = count_line (codes "reach ") source (length told) ++ flat_map (line_from source) told
+reach_lines source told = count_line (codes "reach ") source (length told) ++ flat_map (reach_line_from source) told
 
 -- `reached T C`, and C lines `d S T L`
 abbrev pub reached_lines : ℕ → List NodeDistance → List ℕ
@@ -30,7 +30,7 @@ reached_lines target told = count_line (codes "reached ") target (length told) +
 
 -- `nearest S C`, and C lines `d S X L`
 abbrev pub nearest_lines : ℕ → List NodeDistance → List ℕ
-nearest_lines source told = count_line (codes "nearest ") source (length told) ++ flat_map (line_from source) told
+nearest_lines source told = count_line (codes "nearest ") source (length told) ++ flat_map (reach_line_from source) told
 
 -- one answer line a pair of a source and a target
 abbrev pub pair_lines : List (ℕ × ℕ) → List Reply → List ℕ

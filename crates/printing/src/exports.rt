@@ -4,7 +4,7 @@ ghost use Rattle.roadnet.specs.Net.{IsNetwork};
 ghost use Rattle.printing.specs.Counting.{writer_of};
 ghost use Rattle.printing.specs.Writers.{Puts};
 ghost use Rattle.printing.specs.Chosen.{closed_arcs};
-ghost use Rattle.printing.specs.Exports.{line_of, text_of, heading, counts_row, count_row, arc_row, landmark_row, closing_row, network_rows, landmark_rows, closing_rows, exported_rows, IsOrigin, Says, Writes, ClosingRestores};
+ghost use Rattle.printing.specs.Exports.{text_line_of, text_of, heading, counts_row, count_row, arc_row, landmark_row, closing_row, network_rows, landmark_rows, closing_rows, exported_rows, IsOrigin, SaysExported, WritesText, ClosingRestores};
 
 use crate::failed::Failed;
 use crate::looks::put_part;
@@ -41,7 +41,7 @@ fn put_heading<W: Write>(
     version: u64,
     journal_pages: u32,
 ) -> Result<(), Failed>
-    ensures puts { Puts W.contents (line_of (heading mark.now room (record { version = version; journal_pages = journal_pages }))) result out.old out.new }
+    ensures puts { Puts W.contents (text_line_of (heading mark.now room (record { version = version; journal_pages = journal_pages }))) result out.old out.new }
     ensures version { version < 2 ^ 64 }
     ensures pages { journal_pages < 2 ^ 32 }
 {
@@ -53,7 +53,7 @@ fn put_heading<W: Write>(
 
 /// `p sp N M`
 fn put_counts<W: Write>(out: &mut CountedWriter<'_, W>, nodes: u32, arcs: u64) -> Result<(), Failed>
-    ensures { Puts W.contents (line_of (counts_row nodes arcs)) result out.old out.new }
+    ensures { Puts W.contents (text_line_of (counts_row nodes arcs)) result out.old out.new }
 {
     put_part(out, b"p sp ", u64::from(nodes))?;
     put_numbered(out, b" ", arcs)
@@ -61,14 +61,14 @@ fn put_counts<W: Write>(out: &mut CountedWriter<'_, W>, nodes: u32, arcs: u64) -
 
 /// `p aux sp ss N`
 fn put_count<W: Write>(out: &mut CountedWriter<'_, W>, landmarks: u64) -> Result<(), Failed>
-    ensures { Puts W.contents (line_of (count_row landmarks)) result out.old out.new }
+    ensures { Puts W.contents (text_line_of (count_row landmarks)) result out.old out.new }
 {
     put_numbered(out, b"p aux sp ss ", landmarks)
 }
 
 /// `a T H W`
 fn put_arc_row<W: Write>(out: &mut CountedWriter<'_, W>, arc: &RoadArc) -> Result<(), Failed>
-    ensures { Puts W.contents (line_of (arc_row arc.now)) result out.old out.new }
+    ensures { Puts W.contents (text_line_of (arc_row arc.now)) result out.old out.new }
 {
     put_part(out, b"a ", u64::from(arc.tail))?;
     put_part(out, b" ", u64::from(arc.head))?;
@@ -104,7 +104,7 @@ fn put_closing<W: Write>(
     number: u64,
     arc: &RoadArc,
 ) -> Result<(), Failed>
-    ensures { Puts W.contents (if not arc.now.opened then line_of (closing_row number) else []) result out.old out.new }
+    ensures { Puts W.contents (if not arc.now.opened then text_line_of (closing_row number) else []) result out.old out.new }
 {
     if arc.opened {
         return Ok(());
@@ -199,7 +199,7 @@ pub fn put_exported<W: Write>(
     origin: &Origin,
 ) -> Result<(), Failed>
     ensures puts { Puts W.contents (text_of (exported_rows text network.now origin.now)) result out.old out.new }
-    ensures read { OnOk result (Writes (Says text network.now) (W.contents (writer_of out.old)) (W.contents (writer_of out.new))) }
+    ensures read { OnOk result (WritesText (SaysExported text network.now) (W.contents (writer_of out.old)) (W.contents (writer_of out.new))) }
 {
     match text {
         Exported::Network => put_network(out, network, origin),

@@ -1,6 +1,6 @@
 //! Why a call failed, and how the program reports it.
 ghost use Rattle.std.specs.Prelude.{◌≡◌, is_ok, if◌then◌else◌};
-ghost use Rattle.printing.specs.Failing.{told_of};
+ghost use Rattle.printing.specs.Failing.{fault_told_of};
 
 use dimacs::Fault;
 use roadnet::Refusal;
@@ -18,7 +18,7 @@ pub enum Failed {
 
 /// The result of reading a text. Its fault is reported for the text with this number (`which` of `Failed::Text`).
 pub fn of_text<T>(which: u8, read: Result<T, Fault>) -> Result<T, Failed>
-    ensures { result ≡ told_of which read }
+    ensures { result ≡ fault_told_of which read }
 {
     match read {
         Ok(value) => Ok(value),
@@ -28,11 +28,11 @@ pub fn of_text<T>(which: u8, read: Result<T, Fault>) -> Result<T, Failed>
 
 /// A name in a fault line. What is not printable text in it is escaped, as `\n` or `\u{1b}`, and the rest stays as it is.
 #[derive(Clone, Copy)]
-struct ToldName<'a> {
+struct FaultName<'a> {
     name: &'a str,
 }
 
-impl fmt::Display for ToldName<'_> {
+impl fmt::Display for FaultName<'_> {
     fn fmt<W: fmt::Write>(&self, f: &mut fmt::Formatter<W>) -> fmt::Result {
         for letter in self.name.chars() {
             match letter {
@@ -53,7 +53,7 @@ pub struct FaultLine<'a> {
 
 impl fmt::Display for FaultLine<'_> {
     fn fmt<W: fmt::Write>(&self, f: &mut fmt::Formatter<W>) -> fmt::Result {
-        let name = ToldName { name: self.name };
+        let name = FaultName { name: self.name };
         match self.failed {
             Failed::Text { which: _, fault } => write!(f, "roadmark: {name}: {fault}"),
             Failed::Code(refusal) => write!(f, "roadmark: {refusal}"),

@@ -2,7 +2,7 @@
 ghost use Rattle.std.specs.Prelude.{◌≡◌, length};
 ghost use Rattle.std.specs.List.{flat_map};
 ghost use Rattle.printing.specs.Writers.{Puts};
-ghost use Rattle.printing.specs.Nodes.{count_line, line_from, line_to, reach_lines, reached_lines, nearest_lines, pair_lines};
+ghost use Rattle.printing.specs.Nodes.{count_line, reach_line_from, line_to, reach_lines, reached_lines, nearest_lines, pair_lines};
 
 use crate::failed::Failed;
 use crate::printed::{put_answer, put_number, put_numbered};
@@ -31,7 +31,7 @@ fn put_from<W: Write>(
     source: u64,
     told: &[NodeDistance],
 ) -> Result<(), Failed>
-    ensures { Puts W.contents (flat_map (line_from source) told.now) result out.old out.new }
+    ensures { Puts W.contents (flat_map (reach_line_from source) told.now) result out.old out.new }
 {
     for near in told {
         let target = u64::from(near.node);

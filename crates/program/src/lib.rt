@@ -9,8 +9,8 @@
 ghost use Rattle.std.specs.Prelude.{◌≡◌, ◌≤◌, ◌⊎◌};
 ghost use Rattle.std.specs.Option.{ForSome};
 ghost use Rattle.rows.specs.Kept.{IsWidth};
-ghost use Rattle.words.specs.Pipes.{AreFit};
-ghost use Rattle.words.specs.Words.{IsJournal, IsWorkers, delta_of, journal_of, pipes_of, workers_of};
+ghost use Rattle.words.specs.Pipes.{ArePipesFit};
+ghost use Rattle.words.specs.Words.{IsJournal, IsWorkers, delta_of, journal_pages_of, pipes_of, workers_of};
 
 mod bounds;
 mod running;
@@ -32,9 +32,9 @@ use roadnet::Refusal;
 pub use running::run;
 pub use scripts::parse_script;
 pub use serve_jobs::{Teller, serve_disk};
-pub use server_files::{FileNames, Visits, copy_store, doors_of, see_pipes};
+pub use server_files::{FileNames, VisitCounts, copy_store, doors_of, see_pipes};
 pub use sessions::serve;
-pub use standings::Standing;
+pub use standings::ServerStanding;
 use std::env;
 use std::fs::File;
 use std::rt::{Env, Files};
@@ -54,9 +54,9 @@ fn do_asked<
 where
     T::Dir: Send + 'static,
     requires width { ForSome (delta_of asked.now.job) IsWidth }
-    requires journal { ForSome (journal_of asked.now.job) IsJournal }
+    requires journal { ForSome (journal_pages_of asked.now.job) IsJournal }
     requires workers { ForSome (workers_of asked.now.job) IsWorkers }
-    requires pipes { AreFit (pipes_of asked.now.job) }
+    requires pipes { ArePipesFit (pipes_of asked.now.job) }
     ensures { (result ≤ 1) ⊎ (result ≡ 3) }
 {
     let progress = Progress::new(rt, asked.verbose);

@@ -3,8 +3,8 @@ ghost use Rattle.std.specs.Prelude.{◌≡◌, Some, IfOk};
 ghost use Rattle.std.specs.Option.{ForSome};
 ghost use Rattle.rows.specs.Kept.{IsWidth};
 ghost use Rattle.file_jobs.specs.Kinds.{kind_of};
-ghost use Rattle.words.specs.Pipes.{AreFit};
-ghost use Rattle.words.specs.Words.{IsJournal, IsWorkers, delta_of, journal_of, pipes_of, workers_of, searched_width};
+ghost use Rattle.words.specs.Pipes.{ArePipesFit};
+ghost use Rattle.words.specs.Words.{IsJournal, IsWorkers, delta_of, journal_pages_of, pipes_of, workers_of, searched_width};
 ghost use Rattle.printing.specs.Widths.{told_width, told_workers};
 
 use crate::bounds::ServerRuntime;
@@ -28,7 +28,7 @@ where
     requires kind { kind_of job.now ≡ Kind.Served }
     requires width { ForSome (delta_of job.now) IsWidth }
     requires workers { ForSome (workers_of job.now) IsWorkers }
-    requires pipes { AreFit (pipes_of job.now) }
+    requires pipes { ArePipesFit (pipes_of job.now) }
     ensures width { IfOk result (λ done. told_width done ≡ searched_width job.now) }
     ensures workers { ForSome (workers_of job.now) (λ workers. IfOk result (λ done. told_workers done ≡ Some workers)) }
 {
@@ -63,9 +63,9 @@ pub fn run<
 where
     T::Dir: Send + 'static,
     requires width { ForSome (delta_of job.now) IsWidth }
-    requires journal { ForSome (journal_of job.now) IsJournal }
+    requires journal { ForSome (journal_pages_of job.now) IsJournal }
     requires workers { ForSome (workers_of job.now) IsWorkers }
-    requires pipes { AreFit (pipes_of job.now) }
+    requires pipes { ArePipesFit (pipes_of job.now) }
     ensures width { IfOk result (λ done. told_width done ≡ searched_width job.now) }
     ensures workers { ForSome (workers_of job.now) (λ workers. IfOk result (λ done. told_workers done ≡ Some workers)) }
 {

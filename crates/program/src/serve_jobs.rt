@@ -14,13 +14,13 @@ ghost use Rattle.disk.specs.Contents.{AreAmong};
 ghost use Rattle.store.specs.State.{CameTidy, HasVersion, is_calm};
 ghost use Rattle.office.specs.Left.{KeepsDesk};
 ghost use Rattle.desk.specs.Openings.{IsNewDesk, IsUnstarted};
-ghost use Rattle.storetexts.specs.Asked.{IsUnopened};
+ghost use Rattle.storetexts.specs.Asked.{IsStoreUnopened};
 ghost use Rattle.session_lines.specs.declared.reading.LastLine.TheVariants.{Taken};
 ghost use Rattle.sessions.specs.Told.{CountsRead};
-ghost use Rattle.sessions.specs.Turns.{Serves, IsKept};
+ghost use Rattle.sessions.specs.Turns.{Serves, IsSessionKept};
 ghost use Rattle.server_files.specs.Copied.{copies_in};
 ghost use Rattle.program.specs.Failures.{server_outcome};
-ghost use Rattle.words.specs.Pipes.{AreFit};
+ghost use Rattle.words.specs.Pipes.{ArePipesFit};
 ghost use Rattle.words.specs.Words.{IsWorkers};
 
 use crate::bounds::ServerRuntime;
@@ -79,7 +79,7 @@ impl<T: Eprint + Copy> Gate for Teller<T> {
 
 /// What a session leaves.
 #[derive(Drop)]
-pub struct Ended<D: Disk> {
+pub struct EndedSession<D: Disk> {
     /// Its outcome.
     pub outcome: Result<(), Failed>,
     /// What its desk leaves.
@@ -229,7 +229,7 @@ fn serve_store<
     copies: C,
     reader: &mut Counted<'_, I>,
     writer: &mut CountedWriter<'_, W>,
-) -> Result<Ended<D>, Refusal>
+) -> Result<EndedSession<D>, Refusal>
 where
     T::Dir: Send + 'static,
     requires calm { is_calm store ≡ true }
@@ -239,7 +239,7 @@ where
     requires came_tidy { N.came_tidy ↔ CameTidy D.honest D.content store.given }
     // The lines were answered in their order. Whatever a stop leaves of the closed desk: each command that was reported to be durable has its number in it,
     // and it begins with all commands after which a query was answered.
-    ensures answered { IfOk result (λ ended. IfSome (I.remaining (reader_of reader.old)) (λ text. Serves (C.copying copies) Taken N.origin text (I.remaining (reader_of reader.new)) (W.contents (writer_of writer.old)) (W.contents (writer_of writer.new)) (IsKept ended.closed.whole ended.closed.shown) ended.outcome)) }
+    ensures answered { IfOk result (λ ended. IfSome (I.remaining (reader_of reader.old)) (λ text. Serves (C.copying copies) Taken N.origin text (I.remaining (reader_of reader.new)) (W.contents (writer_of writer.old)) (W.contents (writer_of writer.new)) (IsSessionKept ended.closed.whole ended.closed.shown) ended.outcome)) }
     // The desk's views were built by the setup.
     ensures width { IfOk result (λ ended. told_width ended.done ≡ setup.delta) }
     ensures workers { IfOk result (λ ended. told_workers ended.done ≡ Some setup.workers) }
@@ -265,7 +265,7 @@ where
     if !session.is_kept(&closed) || !visits.past(&threads).is_kept(&closed) {
         return Err(Refusal::Closed);
     }
-    Ok(Ended {
+    Ok(EndedSession {
         outcome,
         closed,
         done,
@@ -296,7 +296,7 @@ pub fn serve_disk<
     folder: Option<String>,
     reader: &mut Counted<'_, I>,
     writer: &mut CountedWriter<'_, W>,
-) -> Result<Ended<D>, Refusal>
+) -> Result<EndedSession<D>, Refusal>
 where
     T::Dir: Send + 'static,
     requires width { ForSome setup.delta IsWidth }
@@ -308,14 +308,14 @@ where
     ensures writes { IfOk result (λ ended. CountsWrites (failed_writes writer.old) (failed_writes writer.new) ended.outcome) }
     // The lines were answered in their order, and what they promised is kept: each command that was reported to be durable has its number in whatever a
     // stop leaves of the closed desk, which begins with all commands after which a query was answered.
-    ensures answered { IfOk result (λ ended. IfSome (I.remaining (reader_of reader.old)) (λ text. Serves (copies_in folder) Taken ended.closed.whole.origin text (I.remaining (reader_of reader.new)) (W.contents (writer_of writer.old)) (W.contents (writer_of writer.new)) (IsKept ended.closed.whole ended.closed.shown) ended.outcome)) }
+    ensures answered { IfOk result (λ ended. IfSome (I.remaining (reader_of reader.old)) (λ text. Serves (copies_in folder) Taken ended.closed.whole.origin text (I.remaining (reader_of reader.new)) (W.contents (writer_of writer.old)) (W.contents (writer_of writer.new)) (IsSessionKept ended.closed.whole ended.closed.shown) ended.outcome)) }
     // The history is of the network and version that the disk's content stood for.
     ensures opened { D.honest disk → IfOk result (λ ended. HasVersion (D.content disk) ended.closed.whole.origin.base ended.closed.whole.origin.version) }
     // If that content was tidy, the closed disk keeps the disk model, and what a stop may leave on it stands for the network after a front of the history
     // that has everything acknowledged or shown.
     ensures honest { CameTidy D.honest D.content disk → IfOk result (λ ended. D.honest ended.closed.disk) }
     ensures left { CameTidy D.honest D.content disk → IfOk result (λ ended. AreAmong (D.left ended.closed.disk) (KeepsDesk ended.closed.whole ended.closed.shown ended.closed.journal_pages)) }
-    ensures refused { IfErr result (λ refusal. IsUnopened (D.honest disk) (D.content disk) refusal ⊎ (IsUnstarted refusal ⊎ (refusal ≡ closed))) }
+    ensures refused { IfErr result (λ refusal. IsStoreUnopened (D.honest disk) (D.content disk) refusal ⊎ (IsUnstarted refusal ⊎ (refusal ≡ closed))) }
 {
     let store = match open(alloc, disk) {
         Ok(store) => store,
@@ -350,11 +350,11 @@ struct Opened<D, P> {
 
 /// The outcome of the session on standard input and output, or how the desk built its views; or that the desk accepted so many commands that the server
 /// should be started again (62).
-fn outcome_of<D: Disk + Drop>(ended: Ended<D>) -> Result<Done, Failed>
+fn outcome_of<D: Disk + Drop>(ended: EndedSession<D>) -> Result<Done, Failed>
     ensures done { IfOk result (λ done. done ≡ ended.done) }
     ensures outcome { result ≡ server_outcome ended.outcome (nat_lt most_of_life (count_of ended.closed.whole.groups + most_of_group)) ended.done }
 {
-    let Ended {
+    let EndedSession {
         outcome,
         closed,
         done,
@@ -414,7 +414,7 @@ fn seen_pipes<'a, 'w, R: AllocGlobal + Files>(
     progress: &Progress<'_, R>,
     pipes: &'a [PipePair<'w>],
 ) -> Result<SeenPipes<'a, 'w>, Failed>
-    requires { AreFit pipes.now }
+    requires { ArePipesFit pipes.now }
 {
     match see_pipes(&FileNames { rt }, pipes) {
         Ok(seen) => Ok(seen),
@@ -437,7 +437,7 @@ fn doors_and_folder<R: AllocGlobal + Files<File = File>, T: Copy + Drop>(
     pipes: &[PipePair<'_>],
     copies: Option<&str>,
 ) -> Result<DoorsAndFolder<T>, Failed>
-    requires { AreFit pipes.now }
+    requires { ArePipesFit pipes.now }
 {
     let pipes = seen_pipes(rt, progress, pipes)?;
     let folder = see_folder(rt, progress, copies)?;
@@ -468,7 +468,7 @@ where
     T::Dir: Send + 'static,
     requires width { ForSome delta IsWidth }
     requires workers { IsWorkers workers }
-    requires pipes { AreFit pipes.now }
+    requires pipes { ArePipesFit pipes.now }
     ensures width { IfOk result (λ done. told_width done ≡ delta) }
     ensures workers { IfOk result (λ done. told_workers done ≡ Some workers) }
 {

@@ -2,7 +2,7 @@
 ghost use Rattle.std.specs.Prelude.{◌≡◌};
 
 use desk::{DeskState, Handle, Served, Working};
-use server_files::{Guests, Visits};
+use server_files::{Guests, VisitCounts};
 use sessions::let_go;
 use std::fmt::{self, Display};
 use std::sync::{Arc, Mutex, Wait};
@@ -15,21 +15,21 @@ const APART: u64 = 1;
 /// What is reported of a server: `durable D, shown V`, the durable and the shown version; `, B behind`, if the latter is lower by B;
 /// `, C clients, N came, M went`, once one has come; and the report of a thread that has ended.
 #[derive(Clone, Copy, Debug, PartialEq, Eq)]
-pub struct Standing {
+pub struct ServerStanding {
     pub durable: u64,
     pub shown: u64,
     pub flusher: Working,
     pub builder: Working,
-    pub visits: Visits,
+    pub visits: VisitCounts,
 }
 
-impl Standing {
+impl ServerStanding {
     /// What is reported of a server whose desk is in this state, and of who came and left until then.
-    fn of(desk: &DeskState, visits: Visits) -> Standing
+    fn of(desk: &DeskState, visits: VisitCounts) -> ServerStanding
         ensures desk { (result.durable ≡ desk.now.durable) × (result.shown ≡ desk.now.shown) × (result.flusher ≡ desk.now.flusher) × (result.builder ≡ desk.now.builder) }
         ensures visits { result.visits ≡ visits }
     {
-        Standing {
+        ServerStanding {
             durable: desk.durable,
             shown: desk.shown,
             flusher: desk.flusher,
@@ -56,9 +56,9 @@ fn told_of_builder(builder: Working) -> &'static str {
     }
 }
 
-impl Display for Standing {
+impl Display for ServerStanding {
     fn fmt<W: fmt::Write>(&self, f: &mut fmt::Formatter<W>) -> fmt::Result {
-        let Standing {
+        let ServerStanding {
             durable,
             shown,
             flusher,
@@ -83,7 +83,7 @@ impl Display for Standing {
 }
 
 /// Reports on a server, at once and then each second in which what is reported has changed, until its desk is closed.
-fn tell_standings<S: Served>(rt: &S::Runtime, desk: &Handle<S>, visits: &Mutex<Visits>)
+fn tell_standings<S: Served>(rt: &S::Runtime, desk: &Handle<S>, visits: &Mutex<VisitCounts>)
 where
     S::Runtime: Eprint,
 {
@@ -92,7 +92,7 @@ where
         let Ok(state) = desk.state() else {
             return;
         };
-        let standing = Standing::of(&state, *visits.lock(rt));
+        let standing = ServerStanding::of(&state, *visits.lock(rt));
         if told != Some(standing) {
             let word = if told.is_none() { "ready, " } else { "" };
             let _ = eprintln!(rt; "note: {word}{standing}");
@@ -121,6 +121,6 @@ where
         &rt,
         desk,
         visits,
-        move |desk: Handle<S>, visits: Arc<Mutex<Visits>>| tell_standings(&rt, &desk, &visits),
+        move |desk: Handle<S>, visits: Arc<Mutex<VisitCounts>>| tell_standings(&rt, &desk, &visits),
     );
 }

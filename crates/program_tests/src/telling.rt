@@ -1,30 +1,30 @@
 //! How a server is told to stand.
 use desk::Working;
-use program::{Standing, Visits};
+use program::{ServerStanding, VisitCounts};
 use std::alloc::{AllocError, Global};
 use std::test::Fail;
 
 /// How a server stands of which these versions are durable and shown, and whose threads go on so.
-fn stood(durable: u64, shown: u64, flusher: Working, builder: Working) -> Standing {
-    Standing {
+fn stood(durable: u64, shown: u64, flusher: Working, builder: Working) -> ServerStanding {
+    ServerStanding {
         durable,
         shown,
         flusher,
         builder,
-        visits: Visits { came: 0, went: 0 },
+        visits: VisitCounts { came: 0, went: 0 },
     }
 }
 
 /// Whether a server is told to stand so, of which this many clients came and went.
 fn is_told(
     alloc: Global,
-    standing: Standing,
+    standing: ServerStanding,
     came: u64,
     went: u64,
     told: &str,
 ) -> Result<bool, AllocError> {
-    let visits = Visits { came, went };
-    let line = format!(in alloc; "{}", Standing { visits, ..standing })?;
+    let visits = VisitCounts { came, went };
+    let line = format!(in alloc; "{}", ServerStanding { visits, ..standing })?;
     Ok(line.as_str() == told)
 }
 

@@ -6,12 +6,12 @@ use lib.ListN.{get_elem?}
 use Rattle.history.specs.Origins.{Beginning}
 
 -- what a seat has seen is of the same desk, and begins what is shown
-abbrev pub Follows : Option Beginning → Beginning → Type 0
-Follows None shown = Unit {0}
-Follows (Some seen) shown = (seen.origin ≡ shown.origin) × IsPrefix seen.groups shown.groups
+abbrev pub SeatFollows : Option Beginning → Beginning → Type 0
+SeatFollows None shown = Unit {0}
+SeatFollows (Some seen) shown = (seen.origin ≡ shown.origin) × IsPrefix seen.groups shown.groups
 
 abbrev pub AllBegin : Beginning → List (Option Beginning) → Type 0
-AllBegin shown views = (seat : ℕ) (seen : Option Beginning) → get_elem? views seat ≡ some seen → Follows seen shown
+AllBegin shown views = (seat : ℕ) (seen : Option Beginning) → get_elem? views seat ≡ some seen → SeatFollows seen shown
 
 -- of the same desk, and no group yet
 abbrev pub opening : Option Beginning → Option Beginning

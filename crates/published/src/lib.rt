@@ -11,5 +11,5 @@ mod shown;
 
 pub use published::Published;
 pub use publishers::Publisher;
-pub use readers::Reader;
+pub use readers::ShownReader;
 pub use shown::Shown;

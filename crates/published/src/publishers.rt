@@ -2,11 +2,11 @@ ghost use Rattle.std.specs.Prelude.{◌≡◌, [], Some, drop, IfOk, IfErr, Matc
 ghost use mathlib.Core.List.{IsPrefix};
 ghost use Rattle.left_right.specs.Sides.{view as seat_view};
 ghost use Rattle.roadnet.specs.declared.refusals.Refusal.TheVariants.{NoReaderPlace as no_reader_place};
-ghost use Rattle.published.specs.Rules.{Follows, last_of};
+ghost use Rattle.published.specs.Rules.{SeatFollows, last_of};
 
 use crate::published::Published;
-use crate::readers::Reader;
-use crate::rules::{Names, Sees, Shows};
+use crate::readers::ShownReader;
+use crate::rules::{NamesReader, Sees, Shows};
 use crate::seats::Seat;
 use crate::shown::Shown;
 use core::mem::replace_with;
@@ -46,7 +46,7 @@ type Copies = Writer<Published, Published, Option<Front>, Shows>;
 /// Shows the last pending view.
 fn show<R: Wait>(rt: &R, writer: Copies) -> (Copies, Result<(), AllocError>)
     requires seated { seat_view writer.desk.place ≡ Some writer.desk.shown.value.shown }
-    requires pending { Follows (Some writer.desk.shown.value.shown) (last_of writer.desk.shown.value (drop writer.behind writer.log.items)).shown }
+    requires pending { SeatFollows (Some writer.desk.shown.value.shown) (last_of writer.desk.shown.value (drop writer.behind writer.log.items)).shown }
     ensures seated { seat_view result.0.desk.place ≡ Some result.0.desk.shown.value.shown }
     ensures values { MatchResult result.1 (λ _. result.0.desk.shown.value ≡ last_of writer.desk.shown.value (drop writer.behind writer.log.items)) (λ _. result.0.desk.shown.value ≡ writer.desk.shown.value) }
     ensures settled { IfOk result.1 (λ _. drop result.0.behind result.0.log.items ≡ []) }
@@ -73,7 +73,7 @@ fn show_next<R: Wait>(
     next: Published,
 ) -> (Copies, Result<(), OutOfMemory>)
     requires seated { seat_view writer.desk.place ≡ Some writer.desk.shown.value.shown }
-    requires next { Follows (Some writer.desk.shown.value.shown) next.shown }
+    requires next { SeatFollows (Some writer.desk.shown.value.shown) next.shown }
     ensures seated { seat_view result.0.desk.place ≡ Some result.0.desk.shown.value.shown }
     ensures values { MatchResult result.1 (λ _. result.0.desk.shown.value ≡ next) (λ _. result.0.desk.shown.value ≡ writer.desk.shown.value) }
 {
@@ -136,7 +136,7 @@ impl Publisher {
     /// A reader of this desk that has not seen any group.
     ///
     /// It fails with 60 if no free place is found, which may happen while readers come and go.
-    pub fn reader(&mut self) -> Result<Reader, Refusal>
+    pub fn reader(&mut self) -> Result<ShownReader, Refusal>
         ensures same { self.new ≡ self.old }
         ensures reader { IfOk result (λ reader. (reader.origin ≡ self.old.shown.origin) × (reader.groups ≡ [])) }
         ensures causes { IfErr result (λ refusal. refusal ≡ no_reader_place) }
@@ -147,8 +147,8 @@ impl Publisher {
         let Ok(mut reader) = self.writer.factory().reader() else {
             return Err(Refusal::NoReaderPlace);
         };
-        reader.learn::<Names>(self.writer.tell::<Names>());
-        Ok(Reader {
+        reader.learn::<NamesReader>(self.writer.tell::<NamesReader>());
+        Ok(ShownReader {
             reader,
             seen: self.writer.published().groups.first(0),
             learned: None,

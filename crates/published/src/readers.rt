@@ -4,7 +4,7 @@ ghost use Rattle.left_right.specs.Sides.{view as seat_view};
 ghost use Rattle.history.specs.Origins.{Beginning};
 ghost use Rattle.roadnet.specs.Step.{after};
 ghost use Rattle.published.specs.Showing.{IsUnseen};
-ghost use Rattle.published.specs.Rules.{Follows};
+ghost use Rattle.published.specs.Rules.{SeatFollows};
 
 use crate::published::Published;
 use crate::rules::{Sees, Shows};
@@ -22,7 +22,7 @@ pub(crate) type SeatedReader = reader::Reader<Published, Option<Front>, Shows>;
 
 /// A reader of what is shown. Contracts see it as the groups that it has seen or learned of, with the desk.
 #[derive(Drop)]
-pub struct Reader {
+pub struct ShownReader {
     pub(crate) reader: SeatedReader,
     /// What it has seen. By the rule of the copy, what is shown begins with this.
     pub(crate) seen: Front,
@@ -32,23 +32,23 @@ pub struct Reader {
     pub(crate) _seat: Seat,
 }
 
-impl Model for Reader {
+impl Model for ShownReader {
     ghost use Rattle.std.specs.Prelude.{◌≡◌, Some, IfSome, unwrap_or};
     ghost use Rattle.left_right.specs.Sides.{view as seat_view};
     ghost use Rattle.history.specs.Origins.{Beginning};
-    ghost use Rattle.published.specs.Rules.{Follows};
+    ghost use Rattle.published.specs.Rules.{SeatFollows};
 
     ghost Value = { Beginning };
 
     ghost view = { λ r. unwrap_or r.learned r.seen };
 
-    ghost invariant = { λ r. ((seat : Beginning) × (seat_view r.reader.place ≡ Some seat) × Follows (Some r.seen) seat) × IfSome r.learned (λ learned. Follows (Some r.seen) learned) };
+    ghost invariant = { λ r. ((seat : Beginning) × (seat_view r.reader.place ≡ Some seat) × SeatFollows (Some r.seen) seat) × IfSome r.learned (λ learned. SeatFollows (Some r.seen) learned) };
 }
 
 /// Enters the published copy, and takes a share of the view.
 fn enter(reader: SeatedReader) -> (SeatedReader, Result<Published, Refusal>)
     requires { IsSome (seat_view reader.place) }
-    ensures seat { (now : Beginning) × (seat_view result.0.place ≡ Some now) × Follows (seat_view reader.place) now × IfOk result.1 (λ taken. taken.shown ≡ now) }
+    ensures seat { (now : Beginning) × (seat_view result.0.place ≡ Some now) × SeatFollows (seat_view reader.place) now × IfOk result.1 (λ taken. taken.shown ≡ now) }
     ensures causes { IfErr result.1 IsUnseen }
 {
     match reader.enter_as::<Sees>() {
@@ -66,15 +66,15 @@ fn enter(reader: SeatedReader) -> (SeatedReader, Result<Published, Refusal>)
 
 /// Enters through the seat of a reader that has seen these groups: what is shown begins with them.
 fn enter_behind(reader: &mut SeatedReader, seen: &Front) -> Result<Published, Refusal>
-    requires { (seat : Beginning) × (seat_view reader.old.place ≡ Some seat) × Follows (Some seen.now) seat }
-    ensures seat { (seat : Beginning) × (seat_view reader.new.place ≡ Some seat) × Follows (Some seen.now) seat }
-    ensures shown { IfOk result (λ taken. (seat_view reader.new.place ≡ Some taken.shown) × Follows (Some seen.now) taken.shown) }
+    requires { (seat : Beginning) × (seat_view reader.old.place ≡ Some seat) × SeatFollows (Some seen.now) seat }
+    ensures seat { (seat : Beginning) × (seat_view reader.new.place ≡ Some seat) × SeatFollows (Some seen.now) seat }
+    ensures shown { IfOk result (λ taken. (seat_view reader.new.place ≡ Some taken.shown) × SeatFollows (Some seen.now) taken.shown) }
     ensures causes { IfErr result IsUnseen }
 {
     replace_with(reader, (), |reader, ()| enter(reader))
 }
 
-impl Reader {
+impl ShownReader {
     /// The front of the history that it has seen or learned of.
     pub fn known(&self) -> &Front
         ensures { result.now ≡ self.now }

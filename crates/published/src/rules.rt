@@ -47,15 +47,15 @@ pub struct Sees;
 
 impl Outcome<Published, Option<Front>> for Sees {
     ghost use Rattle.std.specs.Prelude.{◌≡◌, Some};
-    ghost use Rattle.published.specs.Rules.{Follows};
+    ghost use Rattle.published.specs.Rules.{SeatFollows};
 
-    ghost then = { λ seen before after now. Follows seen after.shown × (now ≡ Some after.shown) };
+    ghost then = { λ seen before after now. SeatFollows seen after.shown × (now ≡ Some after.shown) };
 }
 
 /// The writer's seat names the desk to a new reader's seat, which has seen nothing.
-pub struct Names;
+pub struct NamesReader;
 
-impl Split<Option<Front>> for Names {
+impl Split<Option<Front>> for NamesReader {
     ghost use Rattle.published.specs.Rules.{opening};
 
     ghost left = { λ seen. seen };
@@ -63,7 +63,7 @@ impl Split<Option<Front>> for Names {
     ghost right = { opening };
 }
 
-impl Join<Option<Front>> for Names {
+impl Join<Option<Front>> for NamesReader {
     ghost use Rattle.std.specs.Prelude.{None};
 
     ghost both = { λ seen told. told };

@@ -19,23 +19,23 @@ use Rattle.printing.specs.declared.failed.Failed.{Failed}
 use Rattle.printing.specs.declared.failed.Failed.TheVariants.{Text, Code}
 use Rattle.querytexts.specs.Once.{IsUnanswered, AfterNetwork}
 
-abbrev pub query_of : Pair → Query
-query_of pair = Dist pair.source pair.target
+abbrev pub pair_query_of : Pair → Query
+pair_query_of pair = Dist pair.source pair.target
 
 -- a right reply to each pair, in their order
-abbrev pub AreRight : Net → List Pair → List Reply → Type 0
-AreRight net pairs replies = AllZip (λ pair reply. IsRight net (query_of pair) reply) pairs replies
+abbrev pub ArePairsRight : Net → List Pair → List Reply → Type 0
+ArePairsRight net pairs replies = AllZip (λ pair reply. IsRight net (pair_query_of pair) reply) pairs replies
 
 -- one answer line a pair
 abbrev pub answer_lines : List Pair → List Reply → List ℕ
 answer_lines [] replies = []
 answer_lines (pair ∷ pairs) [] = []
-answer_lines (pair ∷ pairs) (reply ∷ replies) = answer_line (query_of pair) reply ++ answer_lines pairs replies
+answer_lines (pair ∷ pairs) (reply ∷ replies) = answer_line (pair_query_of pair) reply ++ answer_lines pairs replies
 
 -- the line of the version, and the lines of right answers to the pairs, and nothing else
 pub record AnswersAll (net : Net) (version : ℕ) (pairs : List Pair) (old new : Option (List ℕ)) : Type 0 where
   pub replies : List Reply
-  pub right : AreRight net pairs replies
+  pub right : ArePairsRight net pairs replies
   pub written : Appends old new (version_line version ++ answer_lines pairs replies)
 
 -- the pairs of a text, or its fault; their nodes are judged by the network

@@ -7,7 +7,7 @@ use Rattle.dimacs.specs.Content.{gr_text, content}
 use Rattle.dimacs.specs.Texts.{Source, FaultOf}
 use Rattle.rows.specs.declared.queries.Query.{Query}
 use Rattle.rows.specs.declared.queries.Reply.{Reply}
-use Rattle.rows.specs.Replies.{IsRight, refusal_of}
+use Rattle.rows.specs.Replies.{IsRight, query_refusal_of}
 use Rattle.printing.specs.Counting.{writer_of}
 use Rattle.printing.specs.Failing.{LeavesUnwritten}
 use Rattle.printing.specs.Printed.{lines_of}
@@ -60,5 +60,5 @@ pub record AfterNetwork (text : List ℕ) (Holds : Net → Type 0) : Type 0 wher
 abbrev pub IsRefusedOnce : List ℕ → Query → Source → Failed → Type 0
 IsRefusedOnce text query source (Text zero fault) = FaultOf gr_text text source fault
 IsRefusedOnce text query source (Code Write) = AfterNetwork text (λ net. ⊤)
-IsRefusedOnce text query source (Code OutOfMemory) = AfterNetwork text (λ net. refusal_of net query ≡ None)
+IsRefusedOnce text query source (Code OutOfMemory) = AfterNetwork text (λ net. query_refusal_of net query ≡ None)
 IsRefusedOnce text query source failed = ⊥

@@ -14,7 +14,7 @@ use Rattle.snapshot.specs.Groups.{Groups, IsSnapshotOf}
 use Rattle.dimacs.specs.Content.{gr_text}
 use Rattle.dimacs.specs.Texts.{Source, FaultOf}
 use Rattle.deltastep.specs.declared.rows.known.NodeDistance.{NodeDistance}
-use Rattle.deltastep.specs.Reach.{told_as}
+use Rattle.deltastep.specs.Reach.{told_node}
 use Rattle.rows.specs.declared.queries.Query.{Query}
 use Rattle.rows.specs.declared.queries.Query.TheVariants.{Dist}
 use Rattle.rows.specs.declared.queries.Reply.TheVariants.{Length}
@@ -31,9 +31,9 @@ center_of (From source) = source
 center_of (To target) = target
 
 -- the query of the walks between it and another node
-abbrev pub query_of : Reach → ℕ → Query
-query_of (From source) node = Dist source node
-query_of (To target) node = Dist node target
+abbrev pub reach_query_of : Reach → ℕ → Query
+reach_query_of (From source) node = Dist source node
+reach_query_of (To target) node = Dist node target
 
 -- this is the least length of those walks
 abbrev pub IsLength : Net → Reach → ℕ → ℕ → Type 0
@@ -41,30 +41,30 @@ IsLength net (From source) = λ node d. Least net source node d
 IsLength net (To target) = λ node d. Least net node target d
 
 -- at most the limit, if one is given
-abbrev pub IsWithin : Option ℕ → ℕ → Type 0
-IsWithin limit d = ForSome limit (λ most. d ≤ most)
+abbrev pub IsWithinLimit : Option ℕ → ℕ → Type 0
+IsWithinLimit limit d = ForSome limit (λ most. d ≤ most)
 
 -- every node with such walks whose least length is within the limit, and no other, each with that length, ascending by node
-pub record IsReach (net : Net) (reach : Reach) (limit : Option ℕ) (told : List NodeDistance) : Type 0 where
+pub record IsReachOfText (net : Net) (reach : Reach) (limit : Option ℕ) (told : List NodeDistance) : Type 0 where
   pub ascending : IsStrictlyIncreasing (map (λ r. r.node) told)
-  pub right : (node d : ℕ) → Contains told (told_as node d) → IsNode net node × IsLength net reach node d × IsWithin limit d
-  pub each : (node d : ℕ) → IsNode net node → IsLength net reach node d → IsWithin limit d → Contains told (told_as node d)
+  pub right : (node d : ℕ) → Contains told (told_node node d) → IsNode net node × IsLength net reach node d × IsWithinLimit limit d
+  pub each : (node d : ℕ) → IsNode net node → IsLength net reach node d → IsWithinLimit limit d → Contains told (told_node node d)
 
 -- one line `d S T D` a node
 abbrev pub reach_line : Reach → NodeDistance → List ℕ
-reach_line reach r = answer_line (query_of reach r.node) (Length r.distance)
+reach_line reach r = answer_line (reach_query_of reach r.node) (Length r.distance)
 
-abbrev pub reach_lines : Reach → List NodeDistance → List ℕ
-reach_lines reach told = flat_map (reach_line reach) told
+abbrev pub lines_of_reach : Reach → List NodeDistance → List ℕ
+lines_of_reach reach told = flat_map (reach_line reach) told
 
 -- the lines of the nodes; `no 24` where the node is none
 abbrev pub reach_answer : Net → Reach → List NodeDistance → List ℕ
-reach_answer net reach told = if is_node net (center_of reach) then reach_lines reach told else refusal_line (number_of NoSuchNode)
+reach_answer net reach told = if is_node net (center_of reach) then lines_of_reach reach told else refusal_line (number_of NoSuchNode)
 
 -- the version, and the lines of all nodes within the limit and of no other, and nothing else
 pub record AnswersReach (net : Net) (reach : Reach) (limit : Option ℕ) (old new : Option (List ℕ)) : Type 0 where
   pub told : List NodeDistance
-  pub right : is_node net (center_of reach) ≡ true → IsReach net reach limit told
+  pub right : is_node net (center_of reach) ≡ true → IsReachOfText net reach limit told
   pub written : Appends old new (version_line 0 ++ reach_answer net reach told)
 
 -- the groups of the network's open arcs, for walks from a node, or the other way round, for walks to one

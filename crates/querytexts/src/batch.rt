@@ -8,12 +8,12 @@ ghost use Rattle.printing.specs.Failing.{CountsFirst, CountsSecond, LeavesUnwrit
 ghost use Rattle.printing.specs.Widths.{told_width};
 ghost use Rattle.printing.specs.Writers.{KeepsWriter, Puts};
 ghost use Rattle.querytexts.specs.Once.{Answers};
-ghost use Rattle.querytexts.specs.Batch.{query_of, answer_lines, AnswersAll, IsAnsweredBatch, IsOfBatch, IsRefusedBatch};
+ghost use Rattle.querytexts.specs.Batch.{pair_query_of, answer_lines, AnswersAll, IsAnsweredBatch, IsOfBatch, IsRefusedBatch};
 
 use dimacs::{Pair, Text, read_gr, read_p2p};
 use printing::{CountedWriter, Done, Failed, of_text, put_answer, put_version};
 use roadnet::{Network, OutOfMemory, Refusal};
-use rows::{DEFAULT_ROWS, Ends, Query, Reply, Searches};
+use rows::{DEFAULT_ROWS, PairEnds, Query, Reply, Searches};
 use std::alloc::Global;
 use std::io::Write;
 use std::thread::Threads;
@@ -24,7 +24,7 @@ const PAIRS: u8 = 1;
 
 /// The query that a pair asks.
 fn query_of(pair: Pair) -> Query
-    ensures { result ≡ query_of pair }
+    ensures { result ≡ pair_query_of pair }
 {
     Query::Dist {
         source: u64::from(pair.source),
@@ -35,7 +35,7 @@ fn query_of(pair: Pair) -> Query
 /// The sources and targets of a text's pairs.
 struct OfText;
 
-impl Ends for OfText {
+impl PairEnds for OfText {
     type Pair = Pair;
 
     ghost source = { λ pair. pair.source };

@@ -2,7 +2,7 @@
 ghost use Rattle.std.specs.Prelude.{◌≡◌, OnOk, IfOk, IfErr, IfSome, IsSome};
 ghost use Rattle.std.specs.Option.{ForSome};
 ghost use Rattle.rows.specs.Kept.{IsWidth};
-ghost use Rattle.rows.specs.Replies.{refusal_of};
+ghost use Rattle.rows.specs.Replies.{query_refusal_of};
 ghost use Rattle.dimacs.specs.Calling.{KeepsText};
 ghost use Rattle.printing.specs.Counting.{writer_of};
 ghost use Rattle.printing.specs.Failing.{CountsReads, LeavesUnwritten};
@@ -37,7 +37,7 @@ fn answer_one<T: Threads, W: Write>(
     ensures answered { OnOk result (AnswersOne network.now (Query.Dist s t) (W.contents (writer_of out.old)) (W.contents (writer_of out.new))) }
     ensures answers { Answers delta result out.old out.new }
     // A refused query takes no memory.
-    ensures memory { IsSome (refusal_of network.now (Query.Dist s t)) → IfErr result (λ failed. failed ≡ Failed.Code Refusal.Write) }
+    ensures memory { IsSome (query_refusal_of network.now (Query.Dist s t)) → IfErr result (λ failed. failed ≡ Failed.Code Refusal.Write) }
 {
     let query = Query::Dist {
         source: s,

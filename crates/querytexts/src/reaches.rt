@@ -12,7 +12,7 @@ ghost use Rattle.printing.specs.Printed.{version_line, refusal_line};
 ghost use Rattle.printing.specs.Widths.{told_width};
 ghost use Rattle.printing.specs.Writers.{KeepsWriter, Puts};
 ghost use Rattle.querytexts.specs.Once.{Answers, IsOfOnce};
-ghost use Rattle.querytexts.specs.Reach.{center_of, query_of, reach_lines, AreGroupsFor, AnswersReach, IsAnsweredReach, IsReach, IsRefusedReach};
+ghost use Rattle.querytexts.specs.Reach.{center_of, reach_query_of, lines_of_reach, AreGroupsFor, AnswersReach, IsAnsweredReach, IsReachOfText, IsRefusedReach};
 
 use deltastep::{NodeDistance, RowError, Workspace, reach_in, reached_in};
 use dimacs::{Text, read_gr};
@@ -49,7 +49,7 @@ impl Reach {
 
     /// The query for the walks between it and another node.
     fn query_of(self, node: u32) -> Query
-        ensures { result ≡ query_of self node }
+        ensures { result ≡ reach_query_of self node }
     {
         let node = u64::from(node);
         match self {
@@ -94,7 +94,7 @@ fn find<T: Threads>(
 ) -> Result<Vec<NodeDistance>, RowError>
     requires network { IsNetwork network.now }
     requires node { IsNode network.now (center_of reach) }
-    ensures { IfOk result (λ told. IsReach network.now reach limit told.items) }
+    ensures { IfOk result (λ told. IsReachOfText network.now reach limit told.items) }
 {
     let groups = group(searches, alloc, network, reach)?;
     let limit = limit.unwrap_or(u64::MAX);
@@ -116,7 +116,7 @@ fn put_reach<W: Write>(
     reach: Reach,
     told: &[NodeDistance],
 ) -> Result<(), Failed>
-    ensures { Puts W.contents (reach_lines reach told.now) result out.old out.new }
+    ensures { Puts W.contents (lines_of_reach reach told.now) result out.old out.new }
 {
     for one in told {
         put_answer(out, &reach.query_of(one.node), Reply::Length(one.distance))?;
@@ -130,7 +130,7 @@ fn put_found<W: Write>(
     reach: Reach,
     told: &[NodeDistance],
 ) -> Result<(), Failed>
-    ensures { Puts W.contents (version_line 0 ++ reach_lines reach told.now) result out.old out.new }
+    ensures { Puts W.contents (version_line 0 ++ lines_of_reach reach told.now) result out.old out.new }
 {
     put_version(out, 0)?;
     put_reach(out, reach, told)?;

@@ -2,7 +2,7 @@
 ghost use Rattle.std.specs.Prelude.{◌≡◌, ◌++◌, length, OnOk, IfOk, IfErr, IfSome, IsOk, IsSome};
 ghost use Rattle.std.specs.Option.{ForSome};
 ghost use Rattle.rows.specs.Kept.{IsWidth};
-ghost use Rattle.rows.specs.Replies.{refusal_of};
+ghost use Rattle.rows.specs.Replies.{query_refusal_of};
 ghost use Rattle.rows.specs.declared.queries.Query.TheVariants.{Dist};
 ghost use Rattle.routes.specs.RouteReplies.{IsRightRoute};
 ghost use Rattle.dimacs.specs.Calling.{KeepsText};
@@ -44,7 +44,7 @@ fn find<T: Threads>(
     t: u64,
 ) -> Result<RouteReply, OutOfMemory>
     ensures right { IfOk result (IsRightRoute network.now s t) }
-    ensures refused { IsSome (refusal_of network.now (Dist s t)) → IsOk result }
+    ensures refused { IsSome (query_refusal_of network.now (Dist s t)) → IsOk result }
 {
     if !network.has_node(s) || !network.has_node(t) {
         return Ok(RouteReply::Refused(Refusal::NoSuchNode));
@@ -167,7 +167,7 @@ fn answer_one<T: Threads, W: Write>(
     ensures answered { OnOk result (AnswersRoute network.now s t (W.contents (writer_of out.old)) (W.contents (writer_of out.new))) }
     ensures answers { Answers delta result out.old out.new }
     // What is refused takes no memory.
-    ensures memory { IsSome (refusal_of network.now (Dist s t)) → IfErr result (λ failed. failed ≡ Failed.Code Refusal.Write) }
+    ensures memory { IsSome (query_refusal_of network.now (Dist s t)) → IfErr result (λ failed. failed ≡ Failed.Code Refusal.Write) }
 {
     let searches = Searches::new(delta, ROWS);
     let reply = match find(rt, &searches, alloc, network, s, t) {

@@ -17,12 +17,12 @@ use Rattle.machine.specs.declared.events.Replied.{Replied}
 use Rattle.machine.specs.declared.events.Replied.TheVariants.{Refused}
 use Rattle.machine.specs.Machine.{start}
 use Rattle.machine.specs.Lives.{Turn, NoMemory}
-use Rattle.lives.specs.Failures.{failures_by, failures_of_write, failures_of_stop, failures_after, failures_in, EndsAsTold}
+use Rattle.lives.specs.Failures.{failures_by, failures_of_write, failures_of_stop, failures_after_event, failures_in, EndsAsTold}
 use Rattle.printing.specs.Failing.{CountsWrites, IfDevice}
 use Rattle.printing.specs.Replied.{printed_replies}
 use Rattle.printing.specs.declared.failed.Failed.{Failed}
 use Rattle.printing.specs.declared.failed.Failed.TheVariants.{Code}
-use Rattle.rehearsals.specs.Rehearsed.{sizes_of, RepliesTo, Rehearses, IsBrokenOff}
+use Rattle.rehearsals.specs.Rehearsed.{new_store_sizes, RepliesTo, Rehearses, IsBrokenOff}
 
 -- ---- a store that could not be made
 pub unmade_passing : (refusal : Refusal) → (refusal ≡ NotEmpty → ⊥) → (refusal ≡ NotEmpty) ⊎ ((refusal ≡ Device) ⊎ (refusal ≡ OutOfMemory)) → IsPassing refusal
@@ -32,7 +32,7 @@ unmade_passing refusal not h = ⊎_elim (λ is. absurd (not is)) (λ other. ⊎_
 none_run : (net : Net) (pages : ℕ) (events : List (Event Pick)) → RepliesTo net pages events [] (Some OutOfMemory)
 none_run net pages events = record {
   history = [];
-  last = start (sizes_of net pages) net 0 0;
+  last = start (new_store_sizes net pages) net 0 0;
   lives = record { turns = []; rest = events; events_are = refl; replies_are = refl; ends = NoMemory refl (λ e. refl) refl refl };
 }
 
@@ -95,7 +95,7 @@ stop_le [] n = omega arith
 stop_le (reply ∷ []) n = more_le n
 stop_le (reply ∷ last ∷ more) n = by_le reply n
 
-after_le : (event : Event Pick) (replies : List Replied) (n : ℕ) → n ≤ failures_after event replies n
+after_le : (event : Event Pick) (replies : List Replied) (n : ℕ) → n ≤ failures_after_event event replies n
 after_le Flush replies n = write_le replies n
 after_le Checkpoint replies n = write_le replies n
 after_le (CheckpointStep pages) replies n = write_le replies n
@@ -106,7 +106,7 @@ in_le : (turns : List (Turn Pick)) (n : ℕ) → n ≤ failures_in turns n
 in_le [] n = omega arith
 in_le (turn ∷ turns) n =
     let first = after_le turn.0 turn.1 n in
-    let rest = in_le turns (failures_after turn.0 turn.1 n) in
+    let rest = in_le turns (failures_after_event turn.0 turn.1 n) in
     omega (arith, first, rest)
 
 pub unmade_rose : (refusal : Refusal) (old new : ℕ) → new ≡ failures_with refusal old → IfDevice (Code refusal) (Rose old new)

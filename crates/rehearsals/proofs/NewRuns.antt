@@ -12,7 +12,7 @@ use Rattle.machine.specs.declared.events.Replied.{Replied}
 use Rattle.machine.specs.Machine.{Sizes, Machine}
 use Rattle.machine.specs.Lives.{Turn, Ends, Whole, NoMemory, NotOpened, LivesOn}
 use Rattle.keeper.specs.Keeping.{sizes_of as sizes_of_store}
-use Rattle.rehearsals.specs.Rehearsed.{sizes_of, RepliesTo}
+use Rattle.rehearsals.specs.Rehearsed.{new_store_sizes, RepliesTo}
 
 same_sizes : (j w j' w' : ℕ) → j ≡ j' → w ≡ w' → ◌≡◌ {A = Sizes} (record { journal_pages = j; checkpoint_pages = w }) (record { journal_pages = j'; checkpoint_pages = w' })
 same_sizes j w j' w' same_j same_w = cc
@@ -23,15 +23,15 @@ pub replies_to : {D : Type 0} (s : StoreState D) (stands_for : List ℕ → Net 
     → LivesOn stands_for left (sizes_of_store s) s.network s.version s.unchecked events replies ended history
     → RepliesTo net journal_pages events replies ended
 replies_to s stands_for net journal_pages left events replies ended history slot network_is version_is unchecked_is pages_are run =
-    let sizes : sizes_of_store s ≡ sizes_of s.network journal_pages = same_sizes s.journal_pages s.checkpoint_pages journal_pages (checkpoint_pages_of (length s.network.arcs) s.network) pages_are (slot ∙ sym (ap (λ (n : Net). checkpoint_pages_of (length n.arcs) n) network_is)) in
-    let sized : LivesOn stands_for left (sizes_of s.network journal_pages) s.network s.version s.unchecked events replies ended history =
+    let sizes : sizes_of_store s ≡ new_store_sizes s.network journal_pages = same_sizes s.journal_pages s.checkpoint_pages journal_pages (checkpoint_pages_of (length s.network.arcs) s.network) pages_are (slot ∙ sym (ap (λ (n : Net). checkpoint_pages_of (length n.arcs) n) network_is)) in
+    let sized : LivesOn stands_for left (new_store_sizes s.network journal_pages) s.network s.version s.unchecked events replies ended history =
     subst (λ (z : Sizes). LivesOn stands_for left z s.network s.version s.unchecked events replies ended history) sizes run in
-    let of_net : LivesOn stands_for left (sizes_of net journal_pages) net s.version s.unchecked events replies ended history =
-    subst (λ (n : Net). LivesOn stands_for left (sizes_of n journal_pages) n s.version s.unchecked events replies ended history) network_is sized in
-    let of_version : LivesOn stands_for left (sizes_of net journal_pages) net 0 s.unchecked events replies ended history =
-    subst (λ (v : ℕ). LivesOn stands_for left (sizes_of net journal_pages) net v s.unchecked events replies ended history) version_is of_net in
-    let new : LivesOn stands_for left (sizes_of net journal_pages) net 0 0 events replies ended history =
-    subst (λ (u : ℕ). LivesOn stands_for left (sizes_of net journal_pages) net 0 u events replies ended history) unchecked_is of_version in
+    let of_net : LivesOn stands_for left (new_store_sizes net journal_pages) net s.version s.unchecked events replies ended history =
+    subst (λ (n : Net). LivesOn stands_for left (new_store_sizes n journal_pages) n s.version s.unchecked events replies ended history) network_is sized in
+    let of_version : LivesOn stands_for left (new_store_sizes net journal_pages) net 0 s.unchecked events replies ended history =
+    subst (λ (v : ℕ). LivesOn stands_for left (new_store_sizes net journal_pages) net v s.unchecked events replies ended history) version_is of_net in
+    let new : LivesOn stands_for left (new_store_sizes net journal_pages) net 0 0 events replies ended history =
+    subst (λ (u : ℕ). LivesOn stands_for left (new_store_sizes net journal_pages) net 0 u events replies ended history) unchecked_is of_version in
     record { history = history; last = new.last; lives = new.lives }
 
 -- ---- for what a run ends early

@@ -16,15 +16,15 @@ use Rattle.printing.specs.declared.failed.Failed.{Failed}
 use Rattle.printing.specs.declared.failed.Failed.TheVariants.{Code}
 
 -- the sizes of a new store of this network: a checkpoint writes the pages of its room
-abbrev pub sizes_of : Net → ℕ → Sizes
-sizes_of net journal_pages = record { journal_pages = journal_pages; checkpoint_pages = checkpoint_pages_of (length net.arcs) net }
+abbrev pub new_store_sizes : Net → ℕ → Sizes
+new_store_sizes net journal_pages = record { journal_pages = journal_pages; checkpoint_pages = checkpoint_pages_of (length net.arcs) net }
 
 -- The events may be replied to so over lives with stops, of which the first begins with a new store of this network. Where the run ends
 -- early, it ends for this refusal.
 pub record RepliesTo (net : Net) (journal_pages : ℕ) (events : List (Event Pick)) (replies : List Replied) (ended : Option Refusal) : Type 0 where
   pub history : List Group
   pub last : Machine
-  pub lives : Lives (start (sizes_of net journal_pages) net 0 0) events replies ended history last
+  pub lives : Lives (start (new_store_sizes net journal_pages) net 0 0) events replies ended history last
 
 -- what is written are the lines of the replies to such a run, and nothing else
 pub record Rehearses (net : Net) (journal_pages : ℕ) (events : List (Event Pick)) (ended : Option Refusal) (old new : Option (List ℕ)) : Type 0 where

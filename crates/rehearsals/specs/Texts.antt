@@ -24,7 +24,7 @@ pub record OfTexts (network script : List Row) (Holds : Net → List (Event Pick
   pub holds : Holds net events
 
 -- the lines of a network have no fault, and this is told of the script's
-pub record AfterNetwork (network : List Row) (Told : Type 0) : Type 0 where
+pub record ScriptAfterNetwork (network : List Row) (Told : Type 0) : Type 0 where
   pub net : Net
   pub network_is : content_of network ≡ Ok net
   pub told : Told
@@ -38,15 +38,15 @@ abbrev pub IsLeftOff : ℕ → Option ℕ → List Row → List Row → Option (
 IsLeftOff journal_pages room network script old new failed = OfTexts network script (λ net events. IsBrokenOff (roomed net room) journal_pages events old new failed)
 
 -- the room that is given is none for the network; nothing is written
-abbrev pub HasNoSuchRoom : Option ℕ → List Row → List Row → Option (List ℕ) → Option (List ℕ) → Type 0
-HasNoSuchRoom room network script old new = OfTexts network script (λ net events. (¬ IsRoomFor net (room_of net room)) × (new ≡ old))
+abbrev pub HasNoSuchRoomForScript : Option ℕ → List Row → List Row → Option (List ℕ) → Option (List ℕ) → Type 0
+HasNoSuchRoomForScript room network script old new = OfTexts network script (λ net events. (¬ IsRoomFor net (room_of net room)) × (new ≡ old))
 
 -- the fault of the network's text is told, or, where that has none, that of the script; or a reader failed in its text; or the room is refused; or
 -- the run was broken off
 abbrev pub IsRefusedRehearsal : ℕ → Option ℕ → List ℕ → List ℕ → Source → Source → Option (List ℕ) → Option (List ℕ) → Failed → Type 0
 IsRefusedRehearsal journal_pages room network script network_source script_source old new (Text zero fault) = FaultOf gr_text network network_source fault
-IsRefusedRehearsal journal_pages room network script network_source script_source old new (Text (suc zero) fault) = AfterNetwork (rows network) (FaultOf script_text script script_source fault)
-IsRefusedRehearsal journal_pages room network script network_source script_source old new (Code TooLarge) = HasNoSuchRoom room (rows network) (rows script) old new
+IsRefusedRehearsal journal_pages room network script network_source script_source old new (Text (suc zero) fault) = ScriptAfterNetwork (rows network) (FaultOf script_text script script_source fault)
+IsRefusedRehearsal journal_pages room network script network_source script_source old new (Code TooLarge) = HasNoSuchRoomForScript room (rows network) (rows script) old new
 IsRefusedRehearsal journal_pages room network script network_source script_source old new failed = IsLeftOff journal_pages room (rows network) (rows script) old new failed
 
 -- a fault of one of the two texts, or 9, 12, 11 or 43: nothing else

@@ -7,7 +7,7 @@ ghost use Rattle.printing.specs.Counting.{writer_of};
 ghost use Rattle.printing.specs.Failing.{CountsReads, IsOfText};
 ghost use Rattle.printing.specs.Widths.{told_width};
 ghost use Rattle.printing.specs.Writers.{KeepsWriter};
-ghost use Rattle.rehearsals.specs.Joint.{IsAnswered, IsRefused, ReadsJoint};
+ghost use Rattle.rehearsals.specs.Joint.{IsScriptAnswered, IsRehearsalRefused, ReadsJoint};
 ghost use Rattle.rehearsals.specs.Texts.{IsOfRehearsal, UnwrittenOfText};
 
 use crate::running::run_events;
@@ -71,9 +71,9 @@ pub fn joint_text<T: Threads, R: BufRead, W: Write>(
     requires { ForSome delta IsWidth }
     ensures width { IfOk result (λ done. told_width done ≡ delta) }
     ensures answered { OnOk result (IfSome (R.remaining (reader_of reader.old))
-        (λ text. IsAnswered text (W.contents (writer_of out.old)) (W.contents (writer_of out.new)))) }
+        (λ text. IsScriptAnswered text (W.contents (writer_of out.old)) (W.contents (writer_of out.new)))) }
     ensures refused { IfErr result (λ failed. IfSome (R.remaining (reader_of reader.old))
-        (λ text. IsRefused text (R.remaining (reader_of reader.new)) (W.contents (writer_of out.old)) (W.contents (writer_of out.new)) failed)) }
+        (λ text. IsRehearsalRefused text (R.remaining (reader_of reader.new)) (W.contents (writer_of out.old)) (W.contents (writer_of out.new)) failed)) }
     ensures codes { IfErr result IsOfRehearsal }
     ensures unwritten { IfErr result (UnwrittenOfText (writer_of out.old) (writer_of out.new)) }
     ensures reads { CountsReads (failed_calls reader.old) (failed_calls reader.new) result }

@@ -4,7 +4,7 @@ use Rattle.std.specs.Prelude.{is_none}
 use Rattle.roadnet.specs.declared.arcs.RoadArc.{RoadArc}
 use Rattle.roadnet.specs.declared.commands.Command.{Command}
 use Rattle.roadnet.specs.declared.commands.Command.TheVariants.{Set, Close, Reopen, Mark, Unmark, Lay}
-use Rattle.roadnet.specs.declared.probes.Seen.{Seen}
+use Rattle.roadnet.specs.declared.probes.ProbedPlace.{ProbedPlace}
 use Rattle.roadnet.specs.Net.{Net, IsNetwork, arc_at}
 use Rattle.roadnet.specs.Step.{refusal_of, changed, new_arc}
 use Rattle.roadnet.specs.Batches.{opened_at}
@@ -18,7 +18,7 @@ flag_there : (o : Option RoadArc) → is_none o ≡ false → (b : Bool) × (is_
 flag_there None some = absurd (true≢false some)
 flag_there (Some arc) some = (arc.opened, refl)
 
-module _ (net : Net) (k x : ℕ) (seen : Seen) (ok : IsNetwork net) (s : Sees net k x seen) where
+module _ (net : Net) (k x : ℕ) (seen : ProbedPlace) (ok : IsNetwork net) (s : Sees net k x seen) where
   pub see-set : (j w : ℕ) → Sees (changed net (Set j w)) k x seen
   see-set j w = record { opened = opened-set net j w k ∙ s.opened; arcs = length-update_nth _ net.arcs j ∙ s.arcs; marked = s.marked; landmarks = s.landmarks }
 

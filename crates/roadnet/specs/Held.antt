@@ -1,9 +1,9 @@
 -- The commands of a group, as it holds them.
 use Rattle.std.specs.Prelude.{List, [], ◌∷◌}
 use Rattle.roadnet.specs.declared.commands.Command.{Command}
-use Rattle.roadnet.specs.declared.groups.Held.{Held}
-use Rattle.roadnet.specs.declared.groups.Held.TheVariants.{One, Many}
+use Rattle.roadnet.specs.declared.groups.HeldCommands.{HeldCommands}
+use Rattle.roadnet.specs.declared.groups.HeldCommands.TheVariants.{One, Many}
 
-abbrev pub held_in : Held → List Command
+abbrev pub held_in : HeldCommands → List Command
 held_in (One command) = command ∷ []
 held_in (Many commands) = commands.items

@@ -16,8 +16,8 @@ is_node net x = nat_le 1 x && nat_le x net.nodes
 abbrev pub is_landmark : Net → ℕ → Bool
 is_landmark net x = is_member x net.landmarks
 
-abbrev pub is_open : Net → ℕ → Bool
-is_open net k = option_map_or (λ arc. arc.opened) (arc_at net k) false
+abbrev pub is_arc_open : Net → ℕ → Bool
+is_arc_open net k = option_map_or (λ arc. arc.opened) (arc_at net k) false
 
 abbrev pub is_closed : Net → ℕ → Bool
 is_closed net k = option_map_or (λ arc. not arc.opened) (arc_at net k) false
@@ -26,7 +26,7 @@ is_closed net k = option_map_or (λ arc. not arc.opened) (arc_at net k) false
 abbrev pub causes : Net → Command → List (Refusal × Bool)
 causes net (Set k w) = (NoSuchArc, is_none (arc_at net k)) ∷ (LengthRange, nat_lt longest_arc w) ∷ []
 causes net (Close k) = (NoSuchArc, is_none (arc_at net k)) ∷ (AlreadyClosed, is_closed net k) ∷ []
-causes net (Reopen k) = (NoSuchArc, is_none (arc_at net k)) ∷ (AlreadyOpen, is_open net k) ∷ []
+causes net (Reopen k) = (NoSuchArc, is_none (arc_at net k)) ∷ (AlreadyOpen, is_arc_open net k) ∷ []
 causes net (Mark x) =
     (NoSuchNode, not (is_node net x)) ∷ (AlreadyLandmark, is_landmark net x) ∷ (TooManyLandmarks, nat_le most_landmarks (length net.landmarks)) ∷ []
 causes net (Unmark x) = (NoSuchNode, not (is_node net x)) ∷ (NotALandmark, not (is_landmark net x)) ∷ []
@@ -47,8 +47,8 @@ TakesMemory (Unmark x) = ⊥
 TakesMemory (Lay t h w) = Unit {0}
 
 -- with what `apply` may refuse: the command's refusal, or want of memory for an admitted command that takes some
-abbrev pub MayRefuse : Net → Command → Refusal → Type 0
-MayRefuse net command refusal =
+abbrev pub MayRefuseCommand : Net → Command → Refusal → Type 0
+MayRefuseCommand net command refusal =
     (refusal_of net command ≡ Some refusal) ⊎ ((refusal ≡ OutOfMemory) × (refusal_of net command ≡ None) × TakesMemory command)
 
 -- an open arc of these ends and this length

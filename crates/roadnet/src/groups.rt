@@ -11,7 +11,7 @@ pub const MOST_OF_GROUP: usize = 253;
 
 /// How a group holds its commands.
 #[derive(Debug, Drop)]
-enum Held {
+enum HeldCommands {
     One(Command),
     Many(Vec<Command>),
 }
@@ -21,7 +21,7 @@ enum Held {
 /// A group of one command takes no memory of its own.
 #[derive(Debug, Drop)]
 pub struct Group {
-    held: Held,
+    held: HeldCommands,
 }
 
 impl Model for Group {
@@ -50,7 +50,7 @@ impl Group {
             return Err(Refusal::GroupSize);
         }
         Ok(Group {
-            held: Held::Many(commands),
+            held: HeldCommands::Many(commands),
         })
     }
 
@@ -59,7 +59,7 @@ impl Group {
         ensures { result ≡ command ∷ [] }
     {
         Group {
-            held: Held::One(command),
+            held: HeldCommands::One(command),
         }
     }
 
@@ -69,8 +69,8 @@ impl Group {
         ensures group { IsGroup self.now }
     {
         match &self.held {
-            Held::One(command) => from_ref(command),
-            Held::Many(commands) => commands,
+            HeldCommands::One(command) => from_ref(command),
+            HeldCommands::Many(commands) => commands,
         }
     }
 
@@ -80,14 +80,14 @@ impl Group {
         ensures few { OnErr result (2 ≤ length self.now) }
     {
         match &self.held {
-            Held::One(command) => Ok(Group::one(*command)),
-            Held::Many(commands) => {
+            HeldCommands::One(command) => Ok(Group::one(*command)),
+            HeldCommands::Many(commands) => {
                 if commands.len() == 1 {
                     return Ok(Group::one(commands[0]));
                 }
                 let alloc = *commands.allocator();
                 Ok(Group {
-                    held: Held::Many(Vec::from_slice(alloc, commands)?),
+                    held: HeldCommands::Many(Vec::from_slice(alloc, commands)?),
                 })
             }
         }

@@ -98,7 +98,7 @@ fn has_stray_landmark(nodes: u32, landmarks: &[u32]) -> bool
 impl Network {
     ghost use Rattle.roadnet.specs.declared.refusals.Refusal.TheVariants.{TooLarge as too_large};
     ghost use Rattle.roadnet.specs.Net.{IsNode, IsNetwork, IsRoomFor, arc_at};
-    ghost use Rattle.roadnet.specs.Step.{is_node, is_landmark, refusal_of, step, MayRefuse};
+    ghost use Rattle.roadnet.specs.Step.{is_node, is_landmark, refusal_of, step, MayRefuseCommand};
     ghost use Rattle.roadnet.specs.Batches.{opened_at};
 
     /// A network of the nodes 1 to `nodes`, of these arcs in the order of their numbers, open or closed as given, and of these landmarks; one that is
@@ -290,7 +290,7 @@ impl Network {
     pub fn apply(&mut self, command: Command) -> Result<(), Refusal>
         ensures ok { OnOk result (step self.old command ≡ Some self.new) }
         ensures err { OnErr result (self.new ≡ self.old) }
-        ensures refused { IfErr result (MayRefuse self.old command) }
+        ensures refused { IfErr result (MayRefuseCommand self.old command) }
     {
         self.admit(&command)?;
         match command {

@@ -44,7 +44,7 @@ pub trait Probed {
 
 /// What one arc and one node of a network show.
 #[derive(Clone, Copy, Debug)]
-struct Seen {
+struct ProbedPlace {
     /// Whether the arc is open, if there is one.
     opened: Option<bool>,
     /// How many arcs there are.
@@ -63,10 +63,10 @@ fn one_more(n: u64) -> u64
 }
 
 /// What arc `k` and node `x` show after an admitted command.
-fn seen_after_one(command: &Command, k: u64, x: u64, seen: Seen) -> Seen
+fn seen_after_one(command: &Command, k: u64, x: u64, seen: ProbedPlace) -> ProbedPlace
     ensures { (net : Net) → IsNetwork net → refusal_of net command.now ≡ None → Sees net k x seen → Sees (changed net command.now) k x result }
 {
-    let Seen {
+    let ProbedPlace {
         opened,
         arcs,
         marked,
@@ -79,7 +79,7 @@ fn seen_after_one(command: &Command, k: u64, x: u64, seen: Seen) -> Seen
                 return seen;
             }
             let opened = Some(false);
-            Seen {
+            ProbedPlace {
                 opened,
                 arcs,
                 marked,
@@ -91,7 +91,7 @@ fn seen_after_one(command: &Command, k: u64, x: u64, seen: Seen) -> Seen
                 return seen;
             }
             let opened = Some(true);
-            Seen {
+            ProbedPlace {
                 opened,
                 arcs,
                 marked,
@@ -101,7 +101,7 @@ fn seen_after_one(command: &Command, k: u64, x: u64, seen: Seen) -> Seen
         Command::Mark { node } => {
             let landmarks = one_more(landmarks);
             if node != x {
-                return Seen {
+                return ProbedPlace {
                     opened,
                     arcs,
                     marked,
@@ -109,7 +109,7 @@ fn seen_after_one(command: &Command, k: u64, x: u64, seen: Seen) -> Seen
                 };
             }
             let marked = true;
-            Seen {
+            ProbedPlace {
                 opened,
                 arcs,
                 marked,
@@ -119,7 +119,7 @@ fn seen_after_one(command: &Command, k: u64, x: u64, seen: Seen) -> Seen
         Command::Unmark { node } => {
             let landmarks = landmarks.saturating_sub(1);
             if node != x {
-                return Seen {
+                return ProbedPlace {
                     opened,
                     arcs,
                     marked,
@@ -127,7 +127,7 @@ fn seen_after_one(command: &Command, k: u64, x: u64, seen: Seen) -> Seen
                 };
             }
             let marked = false;
-            Seen {
+            ProbedPlace {
                 opened,
                 arcs,
                 marked,
@@ -141,7 +141,7 @@ fn seen_after_one(command: &Command, k: u64, x: u64, seen: Seen) -> Seen
         } => {
             let arcs = one_more(arcs);
             if arcs != k {
-                return Seen {
+                return ProbedPlace {
                     opened,
                     arcs,
                     marked,
@@ -149,7 +149,7 @@ fn seen_after_one(command: &Command, k: u64, x: u64, seen: Seen) -> Seen
                 };
             }
             let opened = Some(true);
-            Seen {
+            ProbedPlace {
                 opened,
                 arcs,
                 marked,
@@ -160,7 +160,7 @@ fn seen_after_one(command: &Command, k: u64, x: u64, seen: Seen) -> Seen
 }
 
 /// What arc `k` and node `x` show after commands that are each admitted in turn.
-fn seen_after(commands: &[Command], k: u64, x: u64, seen: Seen) -> Seen
+fn seen_after(commands: &[Command], k: u64, x: u64, seen: ProbedPlace) -> ProbedPlace
     ensures { (net : Net) → IsNetwork net → first_refusal net commands.now ≡ None → Sees net k x seen → Sees (changed_by net commands.now) k x result }
 {
     let mut last = seen;
@@ -171,7 +171,7 @@ fn seen_after(commands: &[Command], k: u64, x: u64, seen: Seen) -> Seen
 }
 
 /// What arc `k` and node `x` show after groups whose commands are each admitted in turn.
-fn seen_after_all(groups: &[Group], k: u64, x: u64, seen: Seen) -> Seen
+fn seen_after_all(groups: &[Group], k: u64, x: u64, seen: ProbedPlace) -> ProbedPlace
     ensures { (net : Net) → IsNetwork net → first_refusal_of_all net groups.now ≡ None → Sees net k x seen → Sees (changed_by_all net groups.now) k x result }
 {
     let mut last = seen;
@@ -182,12 +182,12 @@ fn seen_after_all(groups: &[Group], k: u64, x: u64, seen: Seen) -> Seen
 }
 
 /// What arc `k` and node `x` show after the groups and the commands.
-fn see<S: Probed>(site: &S, groups: &[Group], commands: &[Command], k: u64, x: u64) -> Seen
+fn see<S: Probed>(site: &S, groups: &[Group], commands: &[Command], k: u64, x: u64) -> ProbedPlace
     requires groups { OfEachNetwork (S.outline site.now) (λ net. first_refusal_of_all net groups.now ≡ None) }
     requires commands { OfEachNetwork (S.outline site.now) (λ net. first_refusal (changed_by_all net groups.now) commands.now ≡ None) }
     ensures { OfEachNetwork (S.outline site.now) (λ net. Sees (changed_by (changed_by_all net groups.now) commands.now) k x result) }
 {
-    let seen = Seen {
+    let seen = ProbedPlace {
         opened: site.flag_of(k),
         arcs: site.count_arcs(),
         marked: site.is_marked(x),

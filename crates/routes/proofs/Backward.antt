@@ -19,8 +19,8 @@ use Rattle.deltastep.proofs.Finishing.{distance_at-value_at}
 use Rattle.frontier.proofs.Members.{Contains-head, Contains-tail}
 use Rattle.snapshot.specs.Groups.{Groups}
 use Rattle.routes.specs.declared.paths.Step.{Step}
-use Rattle.routes.specs.Paths.{IsTight, IsMet, IsDone, IsLooked, IsWay}
-use Rattle.routes.specs.Routes.{head_of_arc, nodes_of, IsRoute, IsTold}
+use Rattle.routes.specs.Paths.{IsTight, IsMet, IsNodeDone, AreLegsLooked, IsWay}
+use Rattle.routes.specs.Routes.{head_of_arc, nodes_visited, IsRoute, IsRouteTold}
 use Rattle.routes.specs.declared.replies.Route.{Route}
 
 -- ---- what a row says
@@ -115,13 +115,13 @@ pub record IsPath (net : Net) (values : List (Option ℕ)) (met : List Bool) (s 
   pub walks : Walk net v t path
   pub tights : AreTight net values v path
   pub long : (x : ℕ) × (value_at values v ≡ Some x) × (length_of net path + x ≡ far)
-  pub apart : AllPairs (λ x y. x ≢ y) (nodes_of net v path)
-  pub on_path : (u : ℕ) → Contains (nodes_of net v path) u → IsMet met u
-  pub done : (u : ℕ) → IsMet met u → Contains (nodes_of net v path) u ⊎ IsDone net values met u
+  pub apart : AllPairs (λ x y. x ≢ y) (nodes_visited net v path)
+  pub on_path : (u : ℕ) → Contains (nodes_visited net v path) u → IsMet met u
+  pub done : (u : ℕ) → IsMet met u → Contains (nodes_visited net v path) u ⊎ IsNodeDone net values met u
   pub target : IsMet met t
   pub source : IsMet met s → v ≡ s
 
-nodes_of-cons : (net : Net) (v k : ℕ) (arc : RoadArc) (path : List ℕ) → arc_at net k ≡ Some arc → nodes_of net v (k ∷ path) ≡ v ∷ nodes_of net arc.head path
+nodes_of-cons : (net : Net) (v k : ℕ) (arc : RoadArc) (path : List ℕ) → arc_at net k ≡ Some arc → nodes_visited net v (k ∷ path) ≡ v ∷ nodes_visited net arc.head path
 nodes_of-cons net v k arc path at =
     let head : head_of_arc net k ≡ arc.head = ap (λ o. option_map_or (λ (a : RoadArc). a.head) o 0) at in
     ap (λ (h : ℕ). v ∷ (h ∷ map (head_of_arc net) path)) head
@@ -165,9 +165,9 @@ module _ (net : Net) (values : List (Option ℕ)) (s t far : ℕ) (ok : IsNetwor
       let among : IsArcAmong net.nodes arc = arc_among net k arc ok tight.there in
       let w = arc.tail in
       let within : w < length met = omega (arith, p.places, among.tail_to) in
-      let nodes : nodes_of net w (k ∷ path) ≡ w ∷ nodes_of net v path = nodes_of-cons net w k arc path tight.there ∙ ap (λ (h : ℕ). w ∷ nodes_of net h path) tight.head in
-      let not_on : (u : ℕ) → Contains (nodes_of net v path) u → w ≢ u = λ u c e. let is : IsMet met w = subst (λ z. IsMet met z) (sym e) (p.on_path u c) in let absurdity : ⊥ = cc in absurdity in
-      let differs : All (λ y. w ≢ y) (nodes_of net v path) = λ i d lt. not_on (get_or (nodes_of net v path) i d) (Contains-get_or (nodes_of net v path) i d lt) in
+      let nodes : nodes_visited net w (k ∷ path) ≡ w ∷ nodes_visited net v path = nodes_of-cons net w k arc path tight.there ∙ ap (λ (h : ℕ). w ∷ nodes_visited net h path) tight.head in
+      let not_on : (u : ℕ) → Contains (nodes_visited net v path) u → w ≢ u = λ u c e. let is : IsMet met w = subst (λ z. IsMet met z) (sym e) (p.on_path u c) in let absurdity : ⊥ = cc in absurdity in
+      let differs : All (λ y. w ≢ y) (nodes_visited net v path) = λ i d lt. not_on (get_or (nodes_visited net v path) i d) (Contains-get_or (nodes_visited net v path) i d lt) in
       let as_far : p.long.0 ≡ tight.sum.0 + arc.length = let e : Some p.long.0 ≡ Some (tight.sum.0 + arc.length) = sym p.long.1 ∙ tight.sum.2 in cc in
       let sum : length_of net (k ∷ path) + tight.sum.0 ≡ far = omega (arith, as_far, p.long.2, length_is net k arc tight.there, length_of-cons net k path) in
       record {
@@ -175,9 +175,9 @@ module _ (net : Net) (values : List (Option ℕ)) (s t far : ℕ) (ok : IsNetwor
         walks = (arc, tight.there, tight.opened, refl, subst (λ z. Walk net z t path) (sym tight.head) p.walks);
         tights = (arc, subst (λ z. IsTight net values z k arc) (sym tight.head) tight, refl, subst (λ z. AreTight net values z path) (sym tight.head) p.tights);
         long = (tight.sum.0, tight.sum.1, sum);
-        apart = subst (λ (xs : List ℕ). AllPairs (λ x y. x ≢ y) xs) (sym nodes) (AllPairs-cons (λ x y. x ≢ y) w (nodes_of net v path) differs p.apart);
+        apart = subst (λ (xs : List ℕ). AllPairs (λ x y. x ≢ y) xs) (sym nodes) (AllPairs-cons (λ x y. x ≢ y) w (nodes_visited net v path) differs p.apart);
         on_path = λ u c. on_new within u (subst (λ (xs : List ℕ). Contains xs u) nodes c);
-        done = λ u is. subst (λ (xs : List ℕ). Contains xs u ⊎ IsDone net values (set met w true) u) (sym nodes) (done_new within u is);
+        done = λ u is. subst (λ (xs : List ℕ). Contains xs u ⊎ IsNodeDone net values (set met w true) u) (sym nodes) (done_new within u is);
         target = met_kept met w t within p.target;
         source = λ is. elim (cases_eq s w) as (λ _. w ≡ s) [
           | inl e ↦ sym e
@@ -185,21 +185,21 @@ module _ (net : Net) (values : List (Option ℕ)) (s t far : ℕ) (ok : IsNetwor
         ];
       }
     where
-      on_new : arc.tail < length met → (u : ℕ) → Contains (arc.tail ∷ nodes_of net v path) u → IsMet (set met arc.tail true) u
+      on_new : arc.tail < length met → (u : ℕ) → Contains (arc.tail ∷ nodes_visited net v path) u → IsMet (set met arc.tail true) u
       on_new within u (zero, lt, e) = subst (λ z. IsMet (set met arc.tail true) z) e (met_there met arc.tail within)
       on_new within u (suc i, lt, e) = met_kept met arc.tail u within (p.on_path u (i, omega arith, e))
 
-      done_new : arc.tail < length met → (u : ℕ) → IsMet (set met arc.tail true) u → Contains (arc.tail ∷ nodes_of net v path) u ⊎ IsDone net values (set met arc.tail true) u
-      done_new within u is = elim (cases_eq u arc.tail) as (λ _. Contains (arc.tail ∷ nodes_of net v path) u ⊎ IsDone net values (set met arc.tail true) u) [
-        | inl e ↦ inl (subst (λ z. Contains (arc.tail ∷ nodes_of net v path) z) (sym e) (Contains-head arc.tail (nodes_of net v path)))
-        | inr ne ↦ elim (p.done u (met_before met arc.tail u ne is)) as (λ _. Contains (arc.tail ∷ nodes_of net v path) u ⊎ IsDone net values (set met arc.tail true) u) [
-          | inl c ↦ inl (Contains-tail arc.tail (nodes_of net v path) u c)
+      done_new : arc.tail < length met → (u : ℕ) → IsMet (set met arc.tail true) u → Contains (arc.tail ∷ nodes_visited net v path) u ⊎ IsNodeDone net values (set met arc.tail true) u
+      done_new within u is = elim (cases_eq u arc.tail) as (λ _. Contains (arc.tail ∷ nodes_visited net v path) u ⊎ IsNodeDone net values (set met arc.tail true) u) [
+        | inl e ↦ inl (subst (λ z. Contains (arc.tail ∷ nodes_visited net v path) z) (sym e) (Contains-head arc.tail (nodes_visited net v path)))
+        | inr ne ↦ elim (p.done u (met_before met arc.tail u ne is)) as (λ _. Contains (arc.tail ∷ nodes_visited net v path) u ⊎ IsNodeDone net values (set met arc.tail true) u) [
+          | inl c ↦ inl (Contains-tail arc.tail (nodes_visited net v path) u c)
           | inr d ↦ inr (λ j a tight. met_kept met arc.tail a.tail within (d j a tight))
         ]
       ]
 
   -- .. and shrinks where no arc is left
-  pub pop : (met : List Bool) (v k : ℕ) (arc : RoadArc) (path : List ℕ) → IsPath net values met s t far v (k ∷ path) → v ≢ s → IsDone net values met v → arc_at net k ≡ Some arc → IsPath net values met s t far arc.head path
+  pub pop : (met : List Bool) (v k : ℕ) (arc : RoadArc) (path : List ℕ) → IsPath net values met s t far v (k ∷ path) → v ≢ s → IsNodeDone net values met v → arc_at net k ≡ Some arc → IsPath net values met s t far arc.head path
   pop met v k arc path p other done at =
       let first : p.walks.0 ≡ arc = let e : Some p.walks.0 ≡ Some arc = sym p.walks.1 ∙ at in cc in
       let rest : Walk net arc.head t path = subst (λ (a : RoadArc). Walk net a.head t path) first p.walks.4 in
@@ -215,9 +215,9 @@ module _ (net : Net) (values : List (Option ℕ)) (s t far : ℕ) (ok : IsNetwor
         walks = rest;
         tights = subst (λ (a : RoadArc). AreTight net values a.head path) mine p.tights.3;
         long = (tight.sum.0 + arc.length, tight.sum.2, sum);
-        apart = AllPairs-tail v (nodes_of net arc.head path) (subst (λ (xs : List ℕ). AllPairs (λ x y. x ≢ y) xs) nodes p.apart);
-        on_path = λ u c. p.on_path u (subst (λ (xs : List ℕ). Contains xs u) (sym nodes) (Contains-tail v (nodes_of net arc.head path) u c));
-        done = λ u is. elim (p.done u is) as (λ _. Contains (nodes_of net arc.head path) u ⊎ IsDone net values met u) [
+        apart = AllPairs-tail v (nodes_visited net arc.head path) (subst (λ (xs : List ℕ). AllPairs (λ x y. x ≢ y) xs) nodes p.apart);
+        on_path = λ u c. p.on_path u (subst (λ (xs : List ℕ). Contains xs u) (sym nodes) (Contains-tail v (nodes_visited net arc.head path) u c));
+        done = λ u is. elim (p.done u is) as (λ _. Contains (nodes_visited net arc.head path) u ⊎ IsNodeDone net values met u) [
           | inl c ↦ left u (subst (λ (xs : List ℕ). Contains xs u) nodes c)
           | inr d ↦ inr d
         ];
@@ -225,14 +225,14 @@ module _ (net : Net) (values : List (Option ℕ)) (s t far : ℕ) (ok : IsNetwor
         source = λ is. absurd (other (p.source is));
       }
     where
-      left : (u : ℕ) → Contains (v ∷ nodes_of net arc.head path) u → Contains (nodes_of net arc.head path) u ⊎ IsDone net values met u
-      left u (zero, lt, e) = inr (subst (λ z. IsDone net values met z) e done)
+      left : (u : ℕ) → Contains (v ∷ nodes_visited net arc.head path) u → Contains (nodes_visited net arc.head path) u ⊎ IsNodeDone net values met u
+      left u (zero, lt, e) = inr (subst (λ z. IsNodeDone net values met z) e done)
       left u (suc i, lt, e) = inl (i, omega arith, e)
 
 -- the values are the distances up to the target's
 module _ (net : Net) (values : List (Option ℕ)) (s t far : ℕ) (ok : IsNetwork net) (of : AreFinal net s (Some far) values) (there : value_at values t ≡ Some far) where
   -- where all nodes that were met are done, all nodes of each least walk were met
-  all_met : (met : List Bool) → ((u : ℕ) → IsMet met u → IsDone net values met u) → IsMet met t → (v x : ℕ) (walk : List ℕ) → Walk net v t walk → value_at values v ≡ Some x → length_of net walk + x ≡ far → IsMet met v
+  all_met : (met : List Bool) → ((u : ℕ) → IsMet met u → IsNodeDone net values met u) → IsMet met t → (v x : ℕ) (walk : List ℕ) → Walk net v t walk → value_at values v ≡ Some x → length_of net walk + x ≡ far → IsMet met v
   all_met met all target v x [] w near sum = subst (λ z. IsMet met z) (sym w.1) target
   all_met met all target v x (k ∷ walk) w near sum =
       let arc : RoadArc = w.0 in
@@ -243,7 +243,7 @@ module _ (net : Net) (values : List (Option ℕ)) (s t far : ℕ) (ok : IsNetwor
       subst (λ z. IsMet met z) w.3 (all arc.head head k arc (record { there = w.1; opened = w.2; head = refl; sum = (x, near_tail, next) }))
 
   -- so the path is not empty where it has to shrink
-  pub not_stuck : (met : List Bool) (v : ℕ) → IsPath net values met s t far v [] → v ≢ s → IsDone net values met v → ⊥
+  pub not_stuck : (met : List Bool) (v : ℕ) → IsPath net values met s t far v [] → v ≢ s → IsNodeDone net values met v → ⊥
   not_stuck met v p other done =
       let least : Least net s t far = (of.right t far there (le_refl far)).1 in
       let walk = least.walked.0 in
@@ -251,9 +251,9 @@ module _ (net : Net) (values : List (Option ℕ)) (s t far : ℕ) (ok : IsNetwor
       let sum : length_of net walk + 0 ≡ far = omega (arith, least.walked.2) in
       other (p.source (all_met met all p.target s 0 walk least.walked.1 zero_there sum))
     where
-      all : (u : ℕ) → IsMet met u → IsDone net values met u
-      all u is = elim (p.done u is) as (λ _. IsDone net values met u) [
-        | inl c ↦ subst (λ z. IsDone net values met z) (only_one v u c) done
+      all : (u : ℕ) → IsMet met u → IsNodeDone net values met u
+      all u is = elim (p.done u is) as (λ _. IsNodeDone net values met u) [
+        | inl c ↦ subst (λ z. IsNodeDone net values met z) (only_one v u c) done
         | inr d ↦ d
       ]
 
@@ -277,16 +277,16 @@ arcs_of steps = map (λ step. step.number) (reverse steps)
 
 -- of the legs of the head of each step's arc, those that were looked at come from nodes that were met, if they are tight
 abbrev pub AreSteps : Net → Groups → List (Option ℕ) → List Bool → List Step → Type 0
-AreSteps net back values met steps = All (λ step. IsLooked net back values met (head_of_arc net step.number) step.looked) steps
+AreSteps net back values met steps = All (λ step. AreLegsLooked net back values met (head_of_arc net step.number) step.looked) steps
 
 arcs_of-push : (steps : List Step) (step : Step) → arcs_of (steps ++ step ∷ []) ≡ step.number ∷ arcs_of steps
 arcs_of-push steps step = ap (λ (l : List Step). map (λ (s : Step). s.number) l) (reverse-append steps (step ∷ []))
 
 module _ (net : Net) (back : Groups) (values : List (Option ℕ)) where
-  looked_none : (met : List Bool) (v : ℕ) → IsLooked net back values met v 0
+  looked_none : (met : List Bool) (v : ℕ) → AreLegsLooked net back values met v 0
   looked_none met v i leg arc lt e tight = absurd (omega arith)
 
-  looked_more : (met : List Bool) (w v looked : ℕ) → w < length met → IsLooked net back values met v looked → IsLooked net back values (set met w true) v looked
+  looked_more : (met : List Bool) (w v looked : ℕ) → w < length met → AreLegsLooked net back values met v looked → AreLegsLooked net back values (set met w true) v looked
   looked_more met w v looked within l i leg arc lt e tight = met_kept met w arc.tail within (l i leg arc lt e tight)
 
   steps_more : (met : List Bool) (w : ℕ) (steps : List Step) → w < length met → AreSteps net back values met steps → AreSteps net back values (set met w true) steps
@@ -295,7 +295,7 @@ module _ (net : Net) (back : Groups) (values : List (Option ℕ)) where
 -- where the search stands: at node v, of which so many legs were looked at, with these steps behind it
 pub record IsAt (net : Net) (back : Groups) (values : List (Option ℕ)) (s t far : ℕ) (met : List Bool) (v looked : ℕ) (steps : List Step) : Type 0 where
   pub path : IsPath net values met s t far v (arcs_of steps)
-  pub here : IsLooked net back values met v looked
+  pub here : AreLegsLooked net back values met v looked
   pub each : AreSteps net back values met steps
 
 module _ (net : Net) (back : Groups) (values : List (Option ℕ)) (s t far : ℕ) (ok : IsNetwork net) (node : IsNode net t) (there : value_at values t ≡ Some far) where
@@ -303,30 +303,30 @@ module _ (net : Net) (back : Groups) (values : List (Option ℕ)) (s t far : ℕ
   begun = record {
     path = start net values s t far ok node there;
     here = looked_none net back values (set (replicate (net.nodes + 1) false) t true) t;
-    each = All-nil (λ step. IsLooked net back values (set (replicate (net.nodes + 1) false) t true) (head_of_arc net step.number) step.looked);
+    each = All-nil (λ step. AreLegsLooked net back values (set (replicate (net.nodes + 1) false) t true) (head_of_arc net step.number) step.looked);
   }
 
-  pub taken : (met : List Bool) (v looked : ℕ) (steps : List Step) (step : Step) (arc : RoadArc) → IsAt net back values s t far met v looked steps → v ≢ s → IsTight net values v step.number arc → get_or met arc.tail false ≡ false → IsLooked net back values met v step.looked → IsAt net back values s t far (set met arc.tail true) arc.tail 0 (steps ++ step ∷ [])
+  pub taken : (met : List Bool) (v looked : ℕ) (steps : List Step) (step : Step) (arc : RoadArc) → IsAt net back values s t far met v looked steps → v ≢ s → IsTight net values v step.number arc → get_or met arc.tail false ≡ false → AreLegsLooked net back values met v step.looked → IsAt net back values s t far (set met arc.tail true) arc.tail 0 (steps ++ step ∷ [])
   taken met v looked steps step arc at other tight new here =
       let w = arc.tail in
       let among : IsArcAmong net.nodes arc = arc_among net step.number arc ok tight.there in
       let within : w < length met = omega (arith, at.path.places, among.tail_to) in
       let head : head_of_arc net step.number ≡ v = ap (λ o. option_map_or (λ (a : RoadArc). a.head) o 0) tight.there ∙ tight.head in
-      let last : IsLooked net back values (set met w true) (head_of_arc net step.number) step.looked = subst (λ u. IsLooked net back values (set met w true) u step.looked) (sym head) (looked_more net back values met w v step.looked within here) in
+      let last : AreLegsLooked net back values (set met w true) (head_of_arc net step.number) step.looked = subst (λ u. AreLegsLooked net back values (set met w true) u step.looked) (sym head) (looked_more net back values met w v step.looked within here) in
       record {
         path = subst (λ (path : List ℕ). IsPath net values (set met w true) s t far w path) (sym (arcs_of-push steps step)) (push net values s t far ok node there met v step.number arc (arcs_of steps) at.path other tight new);
         here = looked_none net back values (set met w true) w;
-        each = All-push (λ p. IsLooked net back values (set met w true) (head_of_arc net p.number) p.looked) steps step (steps_more net back values met w steps within at.each) last;
+        each = All-push (λ p. AreLegsLooked net back values (set met w true) (head_of_arc net p.number) p.looked) steps step (steps_more net back values met w steps within at.each) last;
       }
 
-  pub given_back : (met : List Bool) (v looked : ℕ) (steps : List Step) (step : Step) (arc : RoadArc) → IsAt net back values s t far met v looked (steps ++ step ∷ []) → v ≢ s → IsDone net values met v → arc_at net step.number ≡ Some arc → IsAt net back values s t far met arc.head step.looked steps
+  pub given_back : (met : List Bool) (v looked : ℕ) (steps : List Step) (step : Step) (arc : RoadArc) → IsAt net back values s t far met v looked (steps ++ step ∷ []) → v ≢ s → IsNodeDone net values met v → arc_at net step.number ≡ Some arc → IsAt net back values s t far met arc.head step.looked steps
   given_back met v looked steps step arc at other done is =
       let path : IsPath net values met s t far v (step.number ∷ arcs_of steps) = subst (λ (path : List ℕ). IsPath net values met s t far v path) (arcs_of-push steps step) at.path in
-      let both = All-pop (λ p. IsLooked net back values met (head_of_arc net p.number) p.looked) (steps ++ step ∷ []) steps (Some step) refl at.each in
+      let both = All-pop (λ p. AreLegsLooked net back values met (head_of_arc net p.number) p.looked) (steps ++ step ∷ []) steps (Some step) refl at.each in
       let head : head_of_arc net step.number ≡ arc.head = ap (λ o. option_map_or (λ (a : RoadArc). a.head) o 0) is in
       record {
         path = pop net values s t far ok node there met v step.number arc (arcs_of steps) path other done is;
-        here = subst (λ u. IsLooked net back values met u step.looked) head both.1;
+        here = subst (λ u. AreLegsLooked net back values met u step.looked) head both.1;
         each = both.0;
       }
 
@@ -337,14 +337,14 @@ module _ (net : Net) (back : Groups) (values : List (Option ℕ)) (s t far : ℕ
       (path.walks.0, path.walks.1)
 
   -- where no step is left to be given back, the values are not the distances up to the target's
-  pub never_stuck : (met : List Bool) (v looked : ℕ) (steps : List Step) → IsAt net back values s t far met v looked steps → steps ≡ [] → v ≢ s → IsDone net values met v → IsKnownTo net s t values → ⊥
+  pub never_stuck : (met : List Bool) (v looked : ℕ) (steps : List Step) → IsAt net back values s t far met v looked steps → steps ≡ [] → v ≢ s → IsNodeDone net values met v → IsKnownTo net s t values → ⊥
   never_stuck met v looked steps at none other done known =
       not_stuck net values s t far ok (up_to_there net s t far values known there) there met v (subst (λ (l : List Step). IsPath net values met s t far v (arcs_of l)) none at.path) other done
 
   pub ended : (met : List Bool) (v looked : ℕ) (steps : List Step) → IsAt net back values s t far met v looked steps → v ≡ s → IsWay net values s t far (arcs_of steps)
   ended met v looked steps at e = record {
     walks = subst (λ z. Walk net z t (arcs_of steps)) e at.path.walks;
-    once = subst (λ z. AllPairs (λ x y. x ≢ y) (nodes_of net z (arcs_of steps))) e at.path.apart;
+    once = subst (λ z. AllPairs (λ x y. x ≢ y) (nodes_visited net z (arcs_of steps))) e at.path.apart;
     long = (at.path.long.0, subst (λ z. value_at values z ≡ Some at.path.long.0) e at.path.long.1, at.path.long.2);
   }
 
@@ -353,7 +353,7 @@ pub route_is_as_long : (net : Net) (s t far : ℕ) (arcs : List ℕ) → IsRoute
 route_is_as_long net s t far arcs route least = least_is_one net s t (length_of net arcs) far route.least least
 
 -- a way is told as a route, with its length
-pub told_way : (net : Net) (values : List (Option ℕ)) (s t far : ℕ) (route : Route) → IsWay net values s t far route.arcs.items → value_at values s ≡ Some 0 → Least net s t far → route.length ≡ far → IsTold net s t route
+pub told_way : (net : Net) (values : List (Option ℕ)) (s t far : ℕ) (route : Route) → IsWay net values s t far route.arcs.items → value_at values s ≡ Some 0 → Least net s t far → route.length ≡ far → IsRouteTold net s t route
 told_way net values s t far route way zero_there least same =
     let is = way_is_route net values s t far route.arcs.items way zero_there least in
     record { arcs = is; length = same ∙ sym (route_is_as_long net s t far route.arcs.items is least) }

@@ -4,7 +4,7 @@ ghost use Rattle.std.specs.Prelude.{◌≡◌, IfOk, IfSome, IsOk, IsSome};
 ghost use Rattle.roadnet.specs.Net.{IsNode};
 ghost use Rattle.roadnet.specs.Walks.{RowOf};
 ghost use Rattle.rows.specs.Backs.{IsNumbered, LeadsBack};
-ghost use Rattle.rows.specs.Replies.{refusal_of};
+ghost use Rattle.rows.specs.Replies.{query_refusal_of};
 ghost use Rattle.rows.specs.declared.queries.Query.TheVariants.{Dist};
 ghost use Rattle.routes.specs.RouteReplies.{IsRightRoute};
 ghost use Rattle.routes.specs.Routes.{TellsRoute};
@@ -111,7 +111,7 @@ pub fn answer_route<T: Team>(
     requires back { LeadsBack asker.now.network back.now }
     requires kept { IfSome kept (λ row. RowOf asker.now.network source row.now) }
     ensures right { IfOk result (IsRightRoute asker.now.network source target) }
-    ensures refused { IsSome (refusal_of asker.now.network (Dist source target)) → IsOk result }
+    ensures refused { IsSome (query_refusal_of asker.now.network (Dist source target)) → IsOk result }
 {
     let network = asker.network();
     if !network.has_node(source) || !network.has_node(target) {

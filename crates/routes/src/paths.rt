@@ -3,11 +3,11 @@
 ghost use Rattle.std.specs.Prelude.{◌≡◌, ◌+◌, ◌≤◌, ◌<◌, Some, false, slice_index_or, length, map, reverse, IfOk, IfSome, IfNone};
 ghost use Rattle.std.specs.Bool.{OnTrue};
 ghost use Rattle.relax.specs.Values.{value_at};
-ghost use Rattle.deltastep.specs.Reach.{IsDistance, IsKnownTo};
+ghost use Rattle.deltastep.specs.Reach.{IsLeastLength, IsKnownTo};
 ghost use Rattle.roadnet.specs.Net.{IsNode};
 ghost use Rattle.roadnet.specs.declared.arcs.RoadArc.{RoadArc};
 ghost use Rattle.rows.specs.Backs.{IsNumbered};
-ghost use Rattle.routes.specs.Paths.{IsTight, IsDone, IsLooked, IsWay};
+ghost use Rattle.routes.specs.Paths.{IsTight, IsNodeDone, AreLegsLooked, IsWay};
 ghost use Rattle.routes.specs.Routes.{TellsRoute};
 
 use crate::replies::Route;
@@ -25,7 +25,7 @@ struct Step {
 
 /// A possible next step of the path, and its arc.
 #[derive(Clone, Copy)]
-struct Found {
+struct FoundStep {
     step: Step,
     arc: RoadArc,
 }
@@ -59,16 +59,16 @@ fn arc_from_new<V: Known>(
     met: &[bool],
     node: u32,
     looked: usize,
-) -> Option<Found>
+) -> Option<FoundStep>
     requires numbers { IsNumbered network.now back.now }
     requires places { length (V.values values.now) ≡ network.now.nodes + 1 }
     requires marks { length met.now ≡ network.now.nodes + 1 }
     requires node { IsNode network.now node }
-    requires looked { IsLooked network.now back.now (V.values values.now) met.now node looked }
+    requires looked { AreLegsLooked network.now back.now (V.values values.now) met.now node looked }
     ensures tight { IfSome result (λ found. IsTight network.now (V.values values.now) node found.step.number found.arc) }
     ensures new { IfSome result (λ found. slice_index_or met.now found.arc.tail false ≡ false) }
-    ensures looked { IfSome result (λ found. IsLooked network.now back.now (V.values values.now) met.now node found.step.looked) }
-    ensures none { IfNone result (IsDone network.now (V.values values.now) met.now node) }
+    ensures looked { IfSome result (λ found. AreLegsLooked network.now back.now (V.values values.now) met.now node found.step.looked) }
+    ensures none { IfNone result (IsNodeDone network.now (V.values values.now) met.now node) }
 {
     let _nodes = network.nodes();
     let legs = back.legs(node, Part::Light);
@@ -80,7 +80,7 @@ fn arc_from_new<V: Known>(
                     number,
                     looked: place,
                 };
-                return Some(Found { step, arc });
+                return Some(FoundStep { step, arc });
             }
         }
     }
@@ -198,7 +198,7 @@ pub(crate) fn route_led<V: Known>(
     requires source { IsNode network.now source }
     requires target { IsNode network.now target }
     requires places { length (V.values values.now) ≡ network.now.nodes + 1 }
-    requires distance { IsDistance network.now source target (value_at (V.values values.now) target) }
+    requires distance { IsLeastLength network.now source target (value_at (V.values values.now) target) }
     requires numbers { IsNumbered network.now back.now }
     ensures { IfOk result (λ told. IfSome told (TellsRoute network.now source target)) }
 {

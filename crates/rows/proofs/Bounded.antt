@@ -8,7 +8,7 @@ use Rattle.roadnet.specs.Net.{Net, IsNode}
 use Rattle.roadnet.specs.Walks.{Least, NoWalk, RowOf, distance_at}
 use Rattle.roadnet.proofs.Joined.{least_is_one, least_or_no_walk}
 use Rattle.rows.specs.Bounds.{ShowsNoWalk, HasDifference, IsBoundBy, IsShown}
-use Rattle.kept_rows.specs.Told.{difference_of, told_by}
+use Rattle.kept_rows.specs.Told.{difference_of, told_by_row}
 
 max_cases : (a b : ℕ) → (max a b ≡ a) ⊎ (max a b ≡ b)
 max_cases a b = ⊎_elim (λ (lt : a < b). inr (omega arith)) (λ (le : b ≤ a). inl (omega arith)) (cases_lt a b)
@@ -58,7 +58,7 @@ module _ (net : Net) (s t : ℕ) where
         omega (arith, to_s, to_t, is_d, same))
         (inr (record { to_source = a; to_target = b; source = source; target = target; difference_is = sym same }))
 
-    pub one_more_read : (row : List (Option ℕ)) → IsNode net s → IsNode net t → RowOf net l row → told_by row s t ≡ Some difference
+    pub one_more_read : (row : List (Option ℕ)) → IsNode net s → IsNode net t → RowOf net l row → told_by_row row s t ≡ Some difference
         → IsBoundBy landmarks net s t bound → IsBoundBy (landmarks ++ l ∷ []) net s t (max bound difference)
     one_more_read row node_s node_t row_of told is = by_entries (distance_at row s) (distance_at row t) (row_of.each s node_s) (row_of.each t node_t) told is
 
@@ -69,18 +69,18 @@ module _ (net : Net) (s t : ℕ) where
     shown_by_entries (Some a) None least none told = record { to_source = a; source = least; target = none }
     shown_by_entries (Some a) (Some b) source target told = cc
 
-    pub shown_by_row : (row : List (Option ℕ)) → IsNode net s → IsNode net t → RowOf net l row → told_by row s t ≡ None → ShowsNoWalk net s t l
+    pub shown_by_row : (row : List (Option ℕ)) → IsNode net s → IsNode net t → RowOf net l row → told_by_row row s t ≡ None → ShowsNoWalk net s t l
     shown_by_row row node_s node_t row_of told = shown_by_entries (distance_at row s) (distance_at row t) (row_of.each s node_s) (row_of.each t node_t) told
 
   -- the landmark at a place of the network's is read
   pub place_read : (i d bound difference : ℕ) (row : List (Option ℕ)) → i < length net.landmarks → IsNode net s → IsNode net t → RowOf net (get_or net.landmarks i d) row
-      → told_by row s t ≡ Some difference → IsBoundBy (take i net.landmarks) net s t bound → IsBoundBy (take (i + 1) net.landmarks) net s t (max bound difference)
+      → told_by_row row s t ≡ Some difference → IsBoundBy (take i net.landmarks) net s t bound → IsBoundBy (take (i + 1) net.landmarks) net s t (max bound difference)
   place_read i d bound difference row lt node_s node_t row_of told is =
       subst (λ (ls : List ℕ). IsBoundBy ls net s t (max bound difference)) (sym (take_more net.landmarks i d lt))
       (one_more_read (take i net.landmarks) bound (get_or net.landmarks i d) difference row node_s node_t row_of told is)
 
   pub place_shows : (i d : ℕ) (row : List (Option ℕ)) → i < length net.landmarks → IsNode net s → IsNode net t → RowOf net (get_or net.landmarks i d) row
-      → told_by row s t ≡ None → IsShown net s t
+      → told_by_row row s t ≡ None → IsShown net s t
   place_shows i d row lt node_s node_t row_of told = record {
     landmark = get_or net.landmarks i d;
     among = Contains-get_or net.landmarks i d lt;

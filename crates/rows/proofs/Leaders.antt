@@ -2,7 +2,7 @@
 use Rattle.std.proofs.Common.{◌≡◌, ◌∙◌, ℕ, ◌<◌, ◌≤◌, ◌⊎◌, max, List, [], ◌∷◌, map, fold, filter, Bool, true, false, cond, refl, ap, arith, inl, inr}
 use Rattle.std.proofs.lemmas.Bool.{cases_lt, leb-true, leb-false}
 use Rattle.std.specs.Prelude.{nat_le}
-use Rattle.rows.specs.Guides.{AreAlike, TellNoMore, leading, leads, potential_by, potential_of, potential_toward}
+use Rattle.rows.specs.Guides.{AreRowsAlike, TellNoMore, leading, tells_at_least, potential_by, potential_of, potential_toward}
 use Rattle.rows.specs.declared.guides.Toward.{Toward}
 use Rattle.rows.specs.declared.landmark_rows.Row.{Row}
 
@@ -45,12 +45,12 @@ greatest_leads f least [] a b (inr l) h = absurd (omega (arith, l.1, h))
 greatest_leads f least (row ∷ rows) a b even h = leads_step f least row rows (greatest_leads f least rows) a b even h (nat_le least (f row)) refl
 
 -- what leads tells of no node more than all rows, and of the source as much
-pub leaders_tell_no_more : (towards : List Toward) (least target source : ℕ) (rows : List Row) → AreAlike towards (leading least target source rows) target → TellNoMore towards rows target
+pub leaders_tell_no_more : (towards : List Toward) (least target source : ℕ) (rows : List Row) → AreRowsAlike towards (leading least target source rows) target → TellNoMore towards rows target
 leaders_tell_no_more towards least target source rows alike u =
-    let less : potential_of (leading least target source rows) target u ≤ potential_of rows target u = greatest_of_fewer (λ (row : Row). potential_by row.distances target u) (leads least target source) rows 0 0 (omega arith) in
+    let less : potential_of (leading least target source rows) target u ≤ potential_of rows target u = greatest_of_fewer (λ (row : Row). potential_by row.distances target u) (tells_at_least least target source) rows 0 0 (omega arith) in
     omega (arith, alike u, less)
 
-pub leaders_tell_the_source : (towards : List Toward) (least target source : ℕ) (rows : List Row) → AreAlike towards (leading least target source rows) target → least ≤ potential_of rows target source
+pub leaders_tell_the_source : (towards : List Toward) (least target source : ℕ) (rows : List Row) → AreRowsAlike towards (leading least target source rows) target → least ≤ potential_of rows target source
     → potential_toward towards source ≡ potential_of rows target source
 leaders_tell_the_source towards least target source rows alike some =
     alike source ∙ greatest_leads (λ (row : Row). potential_by row.distances target source) least rows 0 0 (inl refl) some

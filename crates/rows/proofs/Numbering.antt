@@ -14,35 +14,35 @@ use Rattle.snapshot.specs.declared.legs.Part.{Part}
 use Rattle.snapshot.specs.declared.legs.Part.TheVariants.{Light, Heavy}
 use Rattle.deltastep.specs.Repair.{AreTails}
 use Rattle.deltastep.proofs.Finishing.{leg_of_arc, arc_of_leg}
-use Rattle.rows.specs.Backs.{numbered, numbered_from, numbered_leg, IsNumbered, LeadsBack}
+use Rattle.rows.specs.Backs.{back_numbered, numbered_from, numbered_leg, IsNumbered, LeadsBack}
 
-numbered_from-push : (n : ℕ) (arcs : List RoadArc) (arc : RoadArc) → numbered_from n (arcs ++ arc ∷ []) ≡ numbered_from n arcs ++ numbered (n + length arcs) arc ∷ []
-numbered_from-push n [] arc = let e : n + 0 ≡ n = omega arith in ap (λ (m : ℕ). numbered m arc ∷ []) (sym e)
+numbered_from-push : (n : ℕ) (arcs : List RoadArc) (arc : RoadArc) → numbered_from n (arcs ++ arc ∷ []) ≡ numbered_from n arcs ++ back_numbered (n + length arcs) arc ∷ []
+numbered_from-push n [] arc = let e : n + 0 ≡ n = omega arith in ap (λ (m : ℕ). back_numbered m arc ∷ []) (sym e)
 numbered_from-push n (a ∷ arcs) arc =
     let e : suc n + length arcs ≡ n + suc (length arcs) = omega arith in
-    ap (λ (l : List RoadArc). numbered n a ∷ l) (numbered_from-push (suc n) arcs arc ∙ ap (λ (m : ℕ). numbered_from (suc n) arcs ++ numbered m arc ∷ []) e)
+    ap (λ (l : List RoadArc). back_numbered n a ∷ l) (numbered_from-push (suc n) arcs arc ∙ ap (λ (m : ℕ). numbered_from (suc n) arcs ++ back_numbered m arc ∷ []) e)
 
-pub numbered_from-more : (arcs : List RoadArc) (i n : ℕ) (d : RoadArc) → i < length arcs → n ≡ i + 1 → length (take i arcs) ≡ i → numbered_from 1 (take (i + 1) arcs) ≡ numbered_from 1 (take i arcs) ++ numbered n (get_or arcs i d) ∷ []
+pub numbered_from-more : (arcs : List RoadArc) (i n : ℕ) (d : RoadArc) → i < length arcs → n ≡ i + 1 → length (take i arcs) ≡ i → numbered_from 1 (take (i + 1) arcs) ≡ numbered_from 1 (take i arcs) ++ back_numbered n (get_or arcs i d) ∷ []
 numbered_from-more arcs i n d lt e size =
     let same : 1 + length (take i arcs) ≡ n = omega (arith, size) in
     ap (λ (l : List RoadArc). numbered_from 1 l) (take_more arcs i d lt) ∙ numbered_from-push 1 (take i arcs) (get_or arcs i d)
-    ∙ ap (λ (m : ℕ). numbered_from 1 (take i arcs) ++ numbered m (get_or arcs i d) ∷ []) same
+    ∙ ap (λ (m : ℕ). numbered_from 1 (take i arcs) ++ back_numbered m (get_or arcs i d) ∷ []) same
 
-slice_get-numbered : (n : ℕ) (arcs : List RoadArc) (k : ℕ) (arc : RoadArc) → slice_get arcs k ≡ Some arc → slice_get (numbered_from n arcs) k ≡ Some (numbered (n + k) arc)
+slice_get-numbered : (n : ℕ) (arcs : List RoadArc) (k : ℕ) (arc : RoadArc) → slice_get arcs k ≡ Some arc → slice_get (numbered_from n arcs) k ≡ Some (back_numbered (n + k) arc)
 slice_get-numbered n [] k arc e = absurd (let absurdity : ⊥ = cc in absurdity)
 slice_get-numbered n (a ∷ arcs) zero arc e =
     let same : a ≡ arc = cc in
     let sum : n ≡ n + 0 = omega arith in
-    ap (λ (x : RoadArc). Some (numbered n x)) same ∙ ap (λ (m : ℕ). Some (numbered m arc)) sum
+    ap (λ (x : RoadArc). Some (back_numbered n x)) same ∙ ap (λ (m : ℕ). Some (back_numbered m arc)) sum
 slice_get-numbered n (a ∷ arcs) (suc k) arc e =
     let sum : suc n + k ≡ n + suc k = omega arith in
-    slice_get-numbered (suc n) arcs k arc e ∙ ap (λ (m : ℕ). Some (numbered m arc)) sum
+    slice_get-numbered (suc n) arcs k arc e ∙ ap (λ (m : ℕ). Some (back_numbered m arc)) sum
 
-arc_at-numbered : (net turned : Net) (k : ℕ) (arc : RoadArc) → turned.arcs ≡ numbered_from 1 net.arcs → arc_at net k ≡ Some arc → arc_at turned k ≡ Some (numbered k arc)
+arc_at-numbered : (net turned : Net) (k : ℕ) (arc : RoadArc) → turned.arcs ≡ numbered_from 1 net.arcs → arc_at net k ≡ Some arc → arc_at turned k ≡ Some (back_numbered k arc)
 arc_at-numbered net turned zero arc is at = absurd (let no : None ≡ Some arc = at in let absurdity : ⊥ = cc in absurdity)
 arc_at-numbered net turned (suc k) arc is at =
     let sum : 1 + k ≡ suc k = omega arith in
-    subst (λ (l : List RoadArc). slice_get l k ≡ Some (numbered (suc k) arc)) (sym is) (slice_get-numbered 1 net.arcs k arc at ∙ ap (λ (m : ℕ). Some (numbered m arc)) sum)
+    subst (λ (l : List RoadArc). slice_get l k ≡ Some (back_numbered (suc k) arc)) (sym is) (slice_get-numbered 1 net.arcs k arc at ∙ ap (λ (m : ℕ). Some (back_numbered m arc)) sum)
 
 few : (net : Net) (k : ℕ) (arc : RoadArc) → IsNetwork net → arc_at net k ≡ Some arc → k ≤ 2 ^ 26
 few net zero arc ok at = omega arith
@@ -61,7 +61,7 @@ IsNumbered-grouped net whole turned back ok grouped snapshot nodes delta is keep
         let other : RoadArc = there.0 in
         let among : IsArcAmong whole.nodes other = arc_among whole k other ok there.1 in
         let at_turned = arc_at-numbered whole turned k other is there.1 in
-        let l = leg_of_arc turned back snapshot grouped k other.head (numbered k other) among.head_from (omega (arith, among.head_to, nodes)) at_turned refl refl in
+        let l = leg_of_arc turned back snapshot grouped k other.head (back_numbered k other) among.head_from (omega (arith, among.head_to, nodes)) at_turned refl refl in
         let c : Contains (legs_of back Light other.head) (numbered_leg k other) = light other.head l.0 (numbered_leg k other) (few whole k other ok there.1) l.1 in
         let by_head : Contains (legs_of back Light arc.head) (numbered_leg k other) = subst (λ (v : ℕ). Contains (legs_of back Light v) (numbered_leg k other)) there.3 c in
         subst (λ (u : ℕ). let leg : Leg = record { head = u; length = k } in Contains (legs_of back Light arc.head) leg) there.2 by_head

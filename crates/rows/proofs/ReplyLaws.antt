@@ -8,7 +8,7 @@ use Rattle.rows.specs.declared.queries.Query.{Query}
 use Rattle.rows.specs.declared.queries.Query.TheVariants.{Dist, From, Lower}
 use Rattle.rows.specs.declared.queries.Reply.{Reply}
 use Rattle.rows.specs.declared.queries.Reply.TheVariants.{Length, NoWalk, AtLeast, Refused}
-use Rattle.rows.specs.Replies.{IsDistance, IsTold, IsAnswer, IsRight, refusal_of}
+use Rattle.rows.specs.Replies.{IsDistance, IsToldByLandmarks, IsAnswer, IsRight, query_refusal_of}
 use Rattle.rows.specs.ReplyLaws.{RightIsOne, BoundUnderDistance, ShownHasNoWalk}
 use Rattle.rows.proofs.BoundLaws.{bound_is_below, bound_is_one, bound_or_shown, shown_is_true}
 
@@ -24,7 +24,7 @@ one_distance net s t NoWalk (Refused r) a b = absurd b
 one_distance net s t (AtLeast d) second a b = absurd a
 one_distance net s t (Refused r) second a b = absurd a
 
-one_told : (net : Net) (s t : ℕ) (first second : Reply) → IsTold net s t first → IsTold net s t second → first ≡ second
+one_told : (net : Net) (s t : ℕ) (first second : Reply) → IsToldByLandmarks net s t first → IsToldByLandmarks net s t second → first ≡ second
 one_told net s t (AtLeast d) (AtLeast e) a b = ap AtLeast (bound_is_one net s t d e a b)
 one_told net s t (AtLeast d) NoWalk a b = absurd (bound_or_shown net s t d a b)
 one_told net s t (AtLeast d) (Length e) a b = absurd b
@@ -42,10 +42,10 @@ one_answer net (From l t) first second a b = one_distance net l t first second a
 one_answer net (Lower s t) first second a b = one_told net s t first second a b
 
 abbrev Answers : Net → Query → Reply → Type 0
-Answers net query reply = (refusal_of net query ≡ None) × IsAnswer net query reply
+Answers net query reply = (query_refusal_of net query ≡ None) × IsAnswer net query reply
 
 abbrev Refuses : Net → Query → Reply → Type 0
-Refuses net query reply = (r : Refusal) × (reply ≡ Refused r) × (refusal_of net query ≡ Some r)
+Refuses net query reply = (r : Refusal) × (reply ≡ Refused r) × (query_refusal_of net query ≡ Some r)
 
 cases : (net : Net) (query : Query) (reply : Reply) → IsRight net query reply → Answers net query reply ⊎ Refuses net query reply
 cases net query (Length d) right = inl right
@@ -63,9 +63,9 @@ pub right_is_one : RightIsOne
 right_is_one net query first second a b =
     ⊎_elim
     (λ (x : Answers net query first). ⊎_elim (λ (y : Answers net query second). one_answer net query first second x.1 y.1)
-    (λ (y : Refuses net query second). absurd (never (refusal_of net query) y.0 x.0 y.2)) (cases net query second b))
-    (λ (x : Refuses net query first). ⊎_elim (λ (y : Answers net query second). absurd (never (refusal_of net query) x.0 y.0 x.2))
-    (λ (y : Refuses net query second). same_refusal first second (refusal_of net query) x.0 y.0 x.1 x.2 y.1 y.2) (cases net query second b))
+    (λ (y : Refuses net query second). absurd (never (query_refusal_of net query) y.0 x.0 y.2)) (cases net query second b))
+    (λ (x : Refuses net query first). ⊎_elim (λ (y : Answers net query second). absurd (never (query_refusal_of net query) x.0 y.0 x.2))
+    (λ (y : Refuses net query second). same_refusal first second (query_refusal_of net query) x.0 y.0 x.1 x.2 y.1 y.2) (cases net query second b))
     (cases net query first a)
 
 pub bound_under_distance : BoundUnderDistance

@@ -11,7 +11,7 @@ use Rattle.roadnet.specs.Step.{is_node}
 use Rattle.rows.specs.declared.queries.Query.TheVariants.{Dist}
 use Rattle.rows.specs.declared.queries.Reply.{Reply}
 use Rattle.rows.specs.declared.queries.Reply.TheVariants.{Length, NoWalk, AtLeast, Refused}
-use Rattle.rows.specs.Replies.{IsRight, refusal_of}
+use Rattle.rows.specs.Replies.{IsRight, query_refusal_of}
 use Rattle.rows.specs.Batches.{AreRightBy}
 
 exchanged : (a b : Bool) → (a && b) ≡ (b && a)
@@ -21,7 +21,7 @@ exchanged false true = refl
 exchanged false false = refl
 
 -- the same queries are refused
-same_refusal : (net : Net) (s t : ℕ) → refusal_of (reversed net) (Dist t s) ≡ refusal_of net (Dist s t)
+same_refusal : (net : Net) (s t : ℕ) → query_refusal_of (reversed net) (Dist t s) ≡ query_refusal_of net (Dist s t)
 same_refusal net s t = ap (λ (b : Bool). first_applying ((NoSuchNode, not b) ∷ [])) (exchanged (is_node net t) (is_node net s))
 
 module _ (net : Net) (is : IsNetwork net) where

@@ -9,13 +9,13 @@ use Rattle.snapshot.specs.declared.legs.Part.TheVariants.{Light}
 use Rattle.deltastep.specs.Repair.{AreTails}
 
 -- the arc of this number the other way round, open, with its number in place of its length
-abbrev pub numbered : ℕ → RoadArc → RoadArc
-numbered k arc = record { tail = arc.head; head = arc.tail; length = k; opened = true }
+abbrev pub back_numbered : ℕ → RoadArc → RoadArc
+back_numbered k arc = record { tail = arc.head; head = arc.tail; length = k; opened = true }
 
 -- these arcs so, if they are numbered from n on
 abbrev pub numbered_from : ℕ → List RoadArc → List RoadArc
 numbered_from n [] = []
-numbered_from n (arc ∷ arcs) = numbered n arc ∷ numbered_from (suc n) arcs
+numbered_from n (arc ∷ arcs) = back_numbered n arc ∷ numbered_from (suc n) arcs
 
 -- what stands for an arc at its head: its tail and its number
 abbrev pub numbered_leg : ℕ → RoadArc → Leg

@@ -6,13 +6,13 @@ use Rattle.roadnet.specs.Walks.{RowOf, distance_at}
 use Rattle.snapshot.specs.Groups.{Groups, IsSnapshotOf, IsGrouped}
 use Rattle.deltastep.specs.Guided.{IsConsistent}
 use Rattle.deltastep.specs.Words.{distance_of_short}
-use Rattle.kept_rows.specs.Told.{difference_of, told_by}
+use Rattle.kept_rows.specs.Told.{difference_of, told_by_row}
 use Rattle.rows.specs.declared.guides.Toward.{Toward}
 use Rattle.rows.specs.declared.landmark_rows.Row.{Row}
 
 -- by how much the landmark's way to the target is longer than its way to u, or 0 where it is not, or where it leads to one of them alone
 abbrev pub potential_by : List (Option ℕ) → ℕ → ℕ → ℕ
-potential_by row target u = unwrap_or (told_by row u target) 0
+potential_by row target u = unwrap_or (told_by_row row u target) 0
 
 -- the greatest of these, or 0 where there is no row
 abbrev pub potential_of : List Row → ℕ → ℕ → ℕ
@@ -26,20 +26,20 @@ abbrev pub potential_toward : List Toward → ℕ → ℕ
 potential_toward towards u = fold max 0 (map (λ toward. told_toward toward u) towards)
 
 -- these tell of each node what the rows tell
-abbrev pub AreAlike : List Toward → List Row → ℕ → Type 0
-AreAlike towards rows target = (u : ℕ) → potential_toward towards u ≡ potential_of rows target u
+abbrev pub AreRowsAlike : List Toward → List Row → ℕ → Type 0
+AreRowsAlike towards rows target = (u : ℕ) → potential_toward towards u ≡ potential_of rows target u
 
 -- these tell of no node more than the rows
 abbrev pub TellNoMore : List Toward → List Row → ℕ → Type 0
 TellNoMore towards rows target = (u : ℕ) → potential_toward towards u ≤ potential_of rows target u
 
 -- the row tells at least so much of the source
-abbrev pub leads : ℕ → ℕ → ℕ → Row → Bool
-leads least target source row = nat_le least (potential_by row.distances target source)
+abbrev pub tells_at_least : ℕ → ℕ → ℕ → Row → Bool
+tells_at_least least target source row = nat_le least (potential_by row.distances target source)
 
 -- those of the rows that do
 abbrev pub leading : ℕ → ℕ → ℕ → List Row → List Row
-leading least target source rows = filter (leads least target source) rows
+leading least target source rows = filter (tells_at_least least target source) rows
 
 -- each is the row of its landmark
 abbrev pub AreRowsOf : Net → List Row → Type 0

@@ -3,7 +3,7 @@ use Rattle.std.specs.Prelude.{◌≡◌, ℕ, None, IsSome}
 use Rattle.roadnet.specs.Net.{Net}
 use Rattle.rows.specs.Views.{Viewed}
 use Rattle.kept_rows.specs.Cached.{HasRowsOf, HasUsed, rows_of}
-use Rattle.rows.specs.Replies.{refusal_of}
+use Rattle.rows.specs.Replies.{query_refusal_of}
 use Rattle.rows.specs.declared.queries.Query.{Query}
 use Rattle.rows.specs.declared.queries.Query.TheVariants.{Dist, From, Lower}
 use Rattle.kept_rows.specs.declared.caches.RowCache.{RowCache}
@@ -28,7 +28,7 @@ pub record IsSamePin (old new : Pinned) : Type 0 where
 -- What the cache keeps after a query: `Dist`, where it is not refused, has used the row of its source; each other query leaves all as it was.
 abbrev pub HasAnswered : ℕ → Net → Query → RowCache → RowCache → Type 0
 HasAnswered version net (Dist s t) old new =
-    (refusal_of net (Dist s t) ≡ None → HasUsed version s old new)
-    × (IsSome (refusal_of net (Dist s t)) → rows_of new ≡ rows_of old)
+    (query_refusal_of net (Dist s t) ≡ None → HasUsed version s old new)
+    × (IsSome (query_refusal_of net (Dist s t)) → rows_of new ≡ rows_of old)
 HasAnswered version net (From l t) old new = rows_of new ≡ rows_of old
 HasAnswered version net (Lower s t) old new = rows_of new ≡ rows_of old

@@ -26,13 +26,13 @@ abbrev pub are_nodes : Net → ℕ → ℕ → Bool
 are_nodes net s t = is_node net s && is_node net t
 
 -- for what a query is refused: each refusal with its condition, by ascending number
-abbrev pub causes : Net → Query → List (Refusal × Bool)
-causes net (Dist s t) = (NoSuchNode, not (are_nodes net s t)) ∷ []
-causes net (From l t) = (NoSuchNode, not (are_nodes net l t)) ∷ (NotALandmark, not (is_landmark net l)) ∷ []
-causes net (Lower s t) = (NoSuchNode, not (are_nodes net s t)) ∷ []
+abbrev pub query_causes : Net → Query → List (Refusal × Bool)
+query_causes net (Dist s t) = (NoSuchNode, not (are_nodes net s t)) ∷ []
+query_causes net (From l t) = (NoSuchNode, not (are_nodes net l t)) ∷ (NotALandmark, not (is_landmark net l)) ∷ []
+query_causes net (Lower s t) = (NoSuchNode, not (are_nodes net s t)) ∷ []
 
-abbrev pub refusal_of : Net → Query → Option Refusal
-refusal_of net query = first_applying (causes net query)
+abbrev pub query_refusal_of : Net → Query → Option Refusal
+query_refusal_of net query = first_applying (query_causes net query)
 
 -- the least length of a walk, or that there is no walk
 abbrev pub IsDistance : Net → ℕ → ℕ → Reply → Type 0
@@ -41,18 +41,18 @@ IsDistance net s t no_walk = NoWalk net s t
 IsDistance net s t reply = ⊥
 
 -- what the landmarks tell: that there is no walk, or else how long each is at least
-abbrev pub IsTold : Net → ℕ → ℕ → Reply → Type 0
-IsTold net s t (AtLeast d) = IsBound net s t d
-IsTold net s t no_walk = IsShown net s t
-IsTold net s t reply = ⊥
+abbrev pub IsToldByLandmarks : Net → ℕ → ℕ → Reply → Type 0
+IsToldByLandmarks net s t (AtLeast d) = IsBound net s t d
+IsToldByLandmarks net s t no_walk = IsShown net s t
+IsToldByLandmarks net s t reply = ⊥
 
 -- the answer to a query that is not refused
 abbrev pub IsAnswer : Net → Query → Reply → Type 0
 IsAnswer net (Dist s t) reply = IsDistance net s t reply
 IsAnswer net (From l t) reply = IsDistance net l t reply
-IsAnswer net (Lower s t) reply = IsTold net s t reply
+IsAnswer net (Lower s t) reply = IsToldByLandmarks net s t reply
 
 -- A refusal is the lowest that applies. A query that is not refused gets its answer.
 abbrev pub IsRight : Net → Query → Reply → Type 0
-IsRight net query (Refused refusal) = refusal_of net query ≡ Some refusal
-IsRight net query reply = (refusal_of net query ≡ None) × IsAnswer net query reply
+IsRight net query (Refused refusal) = query_refusal_of net query ≡ Some refusal
+IsRight net query reply = (query_refusal_of net query ≡ None) × IsAnswer net query reply

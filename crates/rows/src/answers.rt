@@ -3,7 +3,7 @@ ghost use Rattle.roadnet.specs.Net.{Net, IsNetwork, IsNode};
 ghost use Rattle.roadnet.specs.Walks.{RowOf, distance_at};
 ghost use Rattle.snapshot.specs.Groups.{IsSnapshotOf};
 ghost use Rattle.kept_rows.specs.Cached.{KeepsOthers, HasRowsOf, HasUsed, capacity_of, row_kept, rows_of};
-ghost use Rattle.rows.specs.Replies.{IsDistance, IsRight, refusal_of};
+ghost use Rattle.rows.specs.Replies.{IsDistance, IsRight, query_refusal_of};
 ghost use Rattle.rows.specs.declared.queries.Query.TheVariants.{Dist};
 
 use crate::bounds::plain_bound;
@@ -18,7 +18,7 @@ use std::thread::Threads;
 
 /// Why a query is refused, if it is: the lowest refusal that applies.
 pub(crate) fn refusal_of(network: &Network, query: &Query) -> Option<Refusal>
-    ensures refusal { result ≡ refusal_of network.now query.now }
+    ensures refusal { result ≡ query_refusal_of network.now query.now }
     ensures network { IsNetwork network.now }
 {
     if !network.has_node(query.source()) || !network.has_node(query.target()) {
@@ -64,12 +64,12 @@ pub(crate) fn reply_by<R: Threads>(
     requires groups { IsSnapshotOf network.now snapshot.now }
     requires rows { HasRowsOf version network.now cache.old }
     ensures right { IfOk result (IsRight network.now (Dist source target)) }
-    ensures refused { IsSome (refusal_of network.now (Dist source target)) → IsOk result }
+    ensures refused { IsSome (query_refusal_of network.now (Dist source target)) → IsOk result }
     ensures kept { HasRowsOf version network.now cache.new }
     ensures others { KeepsOthers version cache.old cache.new }
     ensures held { IsSome (row_kept version source cache.old) → IsOk result }
-    ensures used { refusal_of network.now (Dist source target) ≡ None → HasUsed version source cache.old cache.new }
-    ensures unused { IsSome (refusal_of network.now (Dist source target)) → rows_of cache.new ≡ rows_of cache.old }
+    ensures used { query_refusal_of network.now (Dist source target) ≡ None → HasUsed version source cache.old cache.new }
+    ensures unused { IsSome (query_refusal_of network.now (Dist source target)) → rows_of cache.new ≡ rows_of cache.old }
     ensures cut { OnErr result (rows_of cache.new ≡ rows_of cache.old) }
     ensures capacity { capacity_of cache.new ≡ capacity_of cache.old }
 {
@@ -106,7 +106,7 @@ fn plain_distance(
 /// `AtLeast(0)`, and `From { landmark: 3, target: 4 }` `Refused(NotALandmark)`.
 pub fn answer_plain(alloc: Global, network: &Network, query: &Query) -> Result<Reply, OutOfMemory>
     ensures right { IfOk result (IsRight network.now query.now) }
-    ensures refused { IsSome (refusal_of network.now query.now) → IsOk result }
+    ensures refused { IsSome (query_refusal_of network.now query.now) → IsOk result }
 {
     if let Some(refusal) = refusal_of(network, query) {
         return Ok(Reply::Refused(refusal));

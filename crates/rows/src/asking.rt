@@ -5,7 +5,7 @@ ghost use Rattle.roadnet.specs.Net.{IsNode};
 ghost use Rattle.roadnet.specs.Step.{is_node};
 ghost use Rattle.kept_rows.specs.Cached.{HasRowsOf, capacity_of};
 ghost use Rattle.rows.specs.Nearby.{node_of, IsNear, IsUntold};
-ghost use Rattle.rows.specs.Replies.{IsDistance, IsRight, refusal_of};
+ghost use Rattle.rows.specs.Replies.{IsDistance, IsRight, query_refusal_of};
 ghost use Rattle.rows.specs.declared.queries.Query.TheVariants.{Dist, From};
 
 use crate::answers::refusal_of;
@@ -65,7 +65,7 @@ impl Asker<'_> {
     ) -> Result<Reply, OutOfMemory>
         requires { HasRowsOf self.now.version self.now.network cache.old }
         ensures right { IfOk result (IsRight self.now.network (Dist source target)) }
-        ensures refused { IsSome (refusal_of self.now.network (Dist source target)) → IsOk result }
+        ensures refused { IsSome (query_refusal_of self.now.network (Dist source target)) → IsOk result }
         ensures kept { HasRowsOf self.now.version self.now.network cache.new }
     {
         let query = Query::Dist { source, target };
@@ -87,7 +87,7 @@ impl Asker<'_> {
     ) -> Result<Reply, OutOfMemory>
         requires { HasRowsOf self.now.version self.now.network cache.old }
         ensures right { IfOk result (IsRight self.now.network (From landmark target)) }
-        ensures refused { IsSome (refusal_of self.now.network (From landmark target)) → IsOk result }
+        ensures refused { IsSome (query_refusal_of self.now.network (From landmark target)) → IsOk result }
         ensures kept { HasRowsOf self.now.version self.now.network cache.new }
     {
         let query = Query::From { landmark, target };

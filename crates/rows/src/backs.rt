@@ -1,7 +1,7 @@
 //! The arcs of a network the other way round, grouped, each with its number.
 
 ghost use Rattle.std.specs.Prelude.{◌≡◌, ◌≤◌, ◌^◌, IfOk, length};
-ghost use Rattle.rows.specs.Backs.{numbered, numbered_from, LeadsBack};
+ghost use Rattle.rows.specs.Backs.{back_numbered, numbered_from, LeadsBack};
 
 use roadnet::{LONGEST_ARC, Network, OutOfMemory, RoadArc};
 use snapshot::Snapshot;
@@ -9,7 +9,7 @@ use std::alloc::Global;
 
 /// The arc the other way round, open, with its number in place of its length.
 fn numbered(number: u32, arc: RoadArc) -> RoadArc
-    ensures { result ≡ numbered number arc }
+    ensures { result ≡ back_numbered number arc }
 {
     RoadArc {
         tail: arc.head,

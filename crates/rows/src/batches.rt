@@ -8,7 +8,7 @@ ghost use Rattle.kept_rows.specs.Cached.{KeepsOthers, HasRowsOf, capacity_of};
 ghost use Rattle.rows.specs.Kept.{IsWidth};
 
 use crate::answers::reply_by;
-use crate::ends::{Ends, Turned};
+use crate::ends::{PairEnds, Turned};
 use crate::places::{has_fewer_targets, next_sources, places_by_source};
 use crate::queries::Reply;
 use crate::side_by_side::fetch_rows;
@@ -20,7 +20,7 @@ use std::alloc::Global;
 use std::thread::Threads;
 
 /// The replies to pairs, made one after the other.
-fn in_order<R: Threads, E: Ends>(
+fn in_order<R: Threads, E: PairEnds>(
     rt: &R,
     alloc: Global,
     version: u64,
@@ -51,7 +51,7 @@ fn in_order<R: Threads, E: Ends>(
 
 /// If the rows of the sources at the places before this one are not made yet, makes those of the next sources, as far as memory allows. Returns up to which
 /// place they are made.
-fn fetch_next<R: Threads, E: Ends>(
+fn fetch_next<R: Threads, E: PairEnds>(
     rt: &R,
     alloc: Global,
     version: u64,
@@ -83,7 +83,7 @@ fn fetch_next<R: Threads, E: Ends>(
 }
 
 /// The replies to pairs, in their order, made in the order of places: the rows of the sources that come next there are made side by side.
-fn by_places<R: Threads, E: Ends>(
+fn by_places<R: Threads, E: PairEnds>(
     rt: &R,
     alloc: Global,
     version: u64,
@@ -118,7 +118,7 @@ fn by_places<R: Threads, E: Ends>(
 }
 
 /// The replies to pairs, in their order, from the rows of their targets over the reversed arcs. The only error is lack of memory.
-fn by_targets<R: Threads, E: Ends>(
+fn by_targets<R: Threads, E: PairEnds>(
     rt: &R,
     alloc: Global,
     network: &Network,
@@ -143,7 +143,7 @@ fn by_targets<R: Threads, E: Ends>(
 
 /// The replies to pairs, in their order. Each source whose row is not kept is searched once; or, if there are fewer targets, each target is, over the
 /// reversed arcs. The rows of several are made side by side.
-fn by_searches<R: Threads, E: Ends>(
+fn by_searches<R: Threads, E: PairEnds>(
     rt: &R,
     alloc: Global,
     version: u64,
@@ -179,7 +179,7 @@ fn by_searches<R: Threads, E: Ends>(
 ///
 /// The only error is lack of memory, for 20 bytes a pair, a flag a node and a row. If there is memory for these but no more, searches are made one after
 /// the other, from the sources.
-pub(crate) fn replies_to<R: Threads, E: Ends>(
+pub(crate) fn replies_to<R: Threads, E: PairEnds>(
     rt: &R,
     alloc: Global,
     version: u64,

@@ -1,5 +1,5 @@
 ghost use Rattle.std.specs.Prelude.{◌≡◌, None, IfOk};
-ghost use Rattle.rows.specs.Replies.{IsRight, refusal_of};
+ghost use Rattle.rows.specs.Replies.{IsRight, query_refusal_of};
 ghost use Rattle.rows.specs.declared.queries.Query.TheVariants.{Lower};
 
 use crate::queries::Reply;
@@ -11,7 +11,7 @@ use std::alloc::Global;
 
 /// The reply to `Lower`, unless it is refused, from the rows of the view's landmarks: each is read once. It takes no memory.
 pub(crate) fn bound_by(view: &View, source: u64, target: u64) -> Reply
-    requires { refusal_of view.now.network (Lower source target) ≡ None }
+    requires { query_refusal_of view.now.network (Lower source target) ≡ None }
     ensures { IsRight view.now.network (Lower source target) result }
 {
     let mut bound: u64 = 0;
@@ -31,7 +31,7 @@ pub(crate) fn plain_bound(
     source: u64,
     target: u64,
 ) -> Result<Reply, OutOfMemory>
-    requires { refusal_of network.now (Lower source target) ≡ None }
+    requires { query_refusal_of network.now (Lower source target) ≡ None }
     ensures { IfOk result (IsRight network.now (Lower source target)) }
 {
     let mut bound: u64 = 0;

@@ -3,7 +3,7 @@
 ghost use Rattle.std.specs.Prelude.{◌≡◌, ℕ};
 
 /// Which nodes are the source and the target of a pair, for pairs of some type.
-pub trait Ends {
+pub trait PairEnds {
     /// A pair.
     type Pair;
 
@@ -24,9 +24,9 @@ pub trait Ends {
 
 /// Pairs of two numbers, the source first.
 #[derive(Drop)]
-pub(crate) struct Numbers;
+pub(crate) struct NumberPair;
 
-impl Ends for Numbers {
+impl PairEnds for NumberPair {
     type Pair = (u64, u64);
 
     ghost source = { λ pair. pair.0 };
@@ -48,7 +48,7 @@ pub(crate) struct Turned<'a, E> {
     pub(crate) ends: &'a E,
 }
 
-impl<'a, E: Ends> Ends for Turned<'a, E> {
+impl<'a, E: PairEnds> PairEnds for Turned<'a, E> {
     type Pair = E::Pair;
 
     ghost source = { λ pair. E.target pair };

@@ -9,7 +9,7 @@ ghost use Rattle.roadnet.specs.Walks.{distance_at};
 ghost use Rattle.relax.specs.Values.{value_at};
 ghost use Rattle.deltastep.specs.Guided.{IsLowerBound};
 ghost use Rattle.deltastep.specs.Words.{distance_of_short};
-ghost use Rattle.rows.specs.Guides.{AreAlike, AreOfSnapshot, PotentialAtTarget, PotentialIsConsistent, TellNoMore, leading, leads, potential_by, potential_of, potential_toward, told_toward};
+ghost use Rattle.rows.specs.Guides.{AreRowsAlike, AreOfSnapshot, PotentialAtTarget, PotentialIsConsistent, TellNoMore, leading, tells_at_least, potential_by, potential_of, potential_toward, told_toward};
 
 use crate::landmark_rows::Row;
 use crate::views::View;
@@ -78,7 +78,7 @@ fn least_told(alloc: Global, rows: &[Row], target: u32, source: u32) -> Option<u
 
 /// Whether the bound of a row at the source is at least this.
 fn leads(row: &Row, target: u32, source: u32, least: u64) -> bool
-    ensures { result ≡ leads least target source row.now }
+    ensures { result ≡ tells_at_least least target source row.now }
 {
     least <= told_of(row, target, source)
 }
@@ -124,7 +124,7 @@ fn towards_of<'a>(
     source: u32,
     least: u64,
 ) -> Option<Vec<Toward<'a>>>
-    ensures { IfSome result (λ towards. AreAlike towards.items (leading least target source rows.now) target) }
+    ensures { IfSome result (λ towards. AreRowsAlike towards.items (leading least target source rows.now) target) }
 {
     let mut towards = Vec::new(alloc);
     for row in rows {

@@ -1,13 +1,13 @@
 ghost use Rattle.std.specs.Prelude.{◌≡◌, ℕ, [], None, IfOk, IsOk, IsSome, OnErr};
 ghost use Rattle.kept_rows.specs.Cached.{KeepsOthers, HasRowsOf, HasUsed, capacity_of, row_kept, rows_of};
-ghost use Rattle.rows.specs.Replies.{IsRight, refusal_of};
+ghost use Rattle.rows.specs.Replies.{IsRight, query_refusal_of};
 ghost use Rattle.rows.specs.Views.{AreRight};
 ghost use Rattle.rows.specs.Pins.{viewed, cached, HasOwnRows, HasAnswered, IsSamePin};
 ghost use Rattle.rows.specs.declared.queries.Query.TheVariants.{Dist, From, Lower};
 
 use crate::answers::reply_by;
 use crate::batches::replies_to;
-use crate::ends::Numbers;
+use crate::ends::NumberPair;
 use crate::queries::{Query, Reply};
 use crate::views::View;
 use kept_rows::RowCache;
@@ -76,12 +76,12 @@ impl<'a> Pinned<'a> {
     ) -> Result<Reply, OutOfMemory>
         requires { HasOwnRows self.old }
         ensures right { IfOk result (IsRight (viewed self.old).network (Dist source target)) }
-        ensures refused { IsSome (refusal_of (viewed self.old).network (Dist source target)) → IsOk result }
+        ensures refused { IsSome (query_refusal_of (viewed self.old).network (Dist source target)) → IsOk result }
         ensures kept { HasOwnRows self.new }
         ensures others { KeepsOthers (viewed self.old).version (cached self.old) (cached self.new) }
         ensures held { IsSome (row_kept (viewed self.old).version source (cached self.old)) → IsOk result }
-        ensures used { refusal_of (viewed self.old).network (Dist source target) ≡ None → HasUsed (viewed self.old).version source (cached self.old) (cached self.new) }
-        ensures unused { IsSome (refusal_of (viewed self.old).network (Dist source target)) → rows_of (cached self.new) ≡ rows_of (cached self.old) }
+        ensures used { query_refusal_of (viewed self.old).network (Dist source target) ≡ None → HasUsed (viewed self.old).version source (cached self.old) (cached self.new) }
+        ensures unused { IsSome (query_refusal_of (viewed self.old).network (Dist source target)) → rows_of (cached self.new) ≡ rows_of (cached self.old) }
         ensures cut { OnErr result (rows_of (cached self.new) ≡ rows_of (cached self.old)) }
         ensures capacity { capacity_of (cached self.new) ≡ capacity_of (cached self.old) }
         ensures same { IsSamePin self.old self.new }
@@ -128,7 +128,7 @@ impl<'a> Pinned<'a> {
             network,
             view.snapshot(),
             self.cache,
-            &Numbers,
+            &NumberPair,
             pairs,
         )
     }
@@ -145,7 +145,7 @@ impl<'a> Pinned<'a> {
     ) -> Result<Reply, OutOfMemory>
         requires { HasOwnRows self.old }
         ensures right { IfOk result (IsRight (viewed self.old).network query.now) }
-        ensures refused { IsSome (refusal_of (viewed self.old).network query.now) → IsOk result }
+        ensures refused { IsSome (query_refusal_of (viewed self.old).network query.now) → IsOk result }
         ensures landmark { (l t : ℕ) → query.now ≡ From l t → IsOk result }
         ensures lower { (s t : ℕ) → query.now ≡ Lower s t → IsOk result }
         ensures held { (s t : ℕ) → query.now ≡ Dist s t → IsSome (row_kept (viewed self.old).version s (cached self.old)) → IsOk result }

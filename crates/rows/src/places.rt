@@ -3,14 +3,14 @@
 ghost use Rattle.std.specs.Prelude.{◌≡◌, ◌≤◌, length, IfOk, IfSome};
 ghost use Rattle.rows.specs.Batches.{ArePlaces, AreNodes};
 
-use crate::ends::{Ends, Turned};
+use crate::ends::{PairEnds, Turned};
 use kept_rows::RowCache;
 use roadnet::OutOfMemory;
 use snapshot::Snapshot;
 use std::alloc::Global;
 
 /// The source of the pair at a place, or 0.
-fn source_at<E: Ends>(ends: &E, pairs: &[E::Pair], place: u32) -> u64 {
+fn source_at<E: PairEnds>(ends: &E, pairs: &[E::Pair], place: u32) -> u64 {
     match pairs.get(place as usize) {
         Some(pair) => ends.source(pair),
         None => 0,
@@ -18,7 +18,7 @@ fn source_at<E: Ends>(ends: &E, pairs: &[E::Pair], place: u32) -> u64 {
 }
 
 /// The places of so many pairs, ascending by their sources.
-pub(crate) fn places_by_source<E: Ends>(
+pub(crate) fn places_by_source<E: PairEnds>(
     alloc: Global,
     ends: &E,
     pairs: &[E::Pair],
@@ -48,7 +48,7 @@ fn node_of(snapshot: &Snapshot, number: u64) -> Option<u32>
 }
 
 /// How many searches the pairs need: one for each of their sources that is a node and has no kept row. The only error is lack of memory, for a flag a node.
-fn searches_of<E: Ends>(
+fn searches_of<E: PairEnds>(
     alloc: Global,
     version: u64,
     snapshot: &Snapshot,
@@ -72,7 +72,7 @@ fn searches_of<E: Ends>(
 
 /// Whether the pairs need fewer searches from their targets, for which no row is kept, than from their sources. It is false if there is no memory to count
 /// them.
-pub(crate) fn has_fewer_targets<E: Ends>(
+pub(crate) fn has_fewer_targets<E: PairEnds>(
     alloc: Global,
     version: u64,
     snapshot: &Snapshot,
@@ -92,7 +92,7 @@ pub(crate) fn has_fewer_targets<E: Ends>(
 
 /// The next sources of the pairs at these places, in ascending order: as many as the cache keeps rows, or fewer, each a node. Also how many of the places
 /// they serve.
-pub(crate) fn next_sources<E: Ends>(
+pub(crate) fn next_sources<E: PairEnds>(
     alloc: Global,
     snapshot: &Snapshot,
     most: usize,

@@ -5,7 +5,7 @@ ghost use Rattle.std.specs.Option.{ForSome};
 ghost use Rattle.roadnet.specs.Net.{IsNetwork};
 ghost use Rattle.roadnet.specs.Reversal.{reversed};
 ghost use Rattle.snapshot.specs.Groups.{IsSnapshotOf};
-ghost use Rattle.rows.specs.Replies.{IsRight, refusal_of};
+ghost use Rattle.rows.specs.Replies.{IsRight, query_refusal_of};
 ghost use Rattle.rows.specs.declared.queries.Query.TheVariants.{Dist};
 ghost use Rattle.rows.specs.Batches.{AreRightBy};
 ghost use Rattle.rows.specs.Kept.{AreGroupsOf, IsWidth};
@@ -13,7 +13,7 @@ ghost use Rattle.rows.specs.Kept.{AreGroupsOf, IsWidth};
 use crate::answers::refusal_of;
 use crate::askers::Asker;
 use crate::batches::replies_to;
-use crate::ends::Ends;
+use crate::ends::PairEnds;
 use crate::queries::{Query, Reply};
 use crate::turning::turned_groups;
 use crate::views::width_of;
@@ -84,7 +84,7 @@ impl Searches {
         target: u64,
     ) -> Result<Reply, OutOfMemory>
         ensures right { IfOk result (IsRight network.now (Dist source target)) }
-        ensures refused { IsSome (refusal_of network.now (Dist source target)) → IsOk result }
+        ensures refused { IsSome (query_refusal_of network.now (Dist source target)) → IsOk result }
     {
         let query = Query::Dist { source, target };
         if let Some(refusal) = refusal_of(network, &query) {
@@ -108,7 +108,7 @@ impl Searches {
     /// The only error is lack of memory, for the groups, 20 bytes a pair, a flag a node and a row.
     ///
     /// In the network of `examples/six.gr`, the pairs (1, 6) and (6, 1) give `Length(15)` and `NoWalk`.
-    pub fn batch<R: Threads, E: Ends>(
+    pub fn batch<R: Threads, E: PairEnds>(
         &self,
         rt: &R,
         alloc: Global,

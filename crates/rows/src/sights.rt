@@ -1,6 +1,6 @@
 ghost use Rattle.std.specs.Prelude.{◌≡◌, ℕ, [], IfOk, IsOk, IsSome};
 ghost use Rattle.rows.specs.declared.queries.Query.TheVariants.{From, Lower};
-ghost use Rattle.rows.specs.Replies.{refusal_of, IsRight};
+ghost use Rattle.rows.specs.Replies.{query_refusal_of, IsRight};
 ghost use Rattle.rows.specs.Views.{AreRight};
 
 use crate::queries::{Query, Reply};
@@ -90,7 +90,7 @@ impl Sight {
         query: &Query,
     ) -> Result<Reply, OutOfMemory>
         ensures right { IfOk result (IsRight self.old.network query.now) }
-        ensures refused { IsSome (refusal_of self.old.network query.now) → IsOk result }
+        ensures refused { IsSome (query_refusal_of self.old.network query.now) → IsOk result }
         ensures landmark { (l t : ℕ) → query.now ≡ From l t → IsOk result }
         ensures lower { (s t : ℕ) → query.now ≡ Lower s t → IsOk result }
         ensures same { self.new ≡ self.old }

@@ -7,7 +7,7 @@ ghost use Rattle.rows.specs.Views.{AreRight};
 
 use crate::askers::Asker;
 use crate::batches::replies_to;
-use crate::ends::Numbers;
+use crate::ends::NumberPair;
 use crate::queries::Reply;
 use kept_rows::{DEFAULT_ROWS, RowCache};
 use roadnet::{Network, OutOfMemory, Refusal};
@@ -52,7 +52,14 @@ impl Asker<'_> {
         let mut made = RowCache::new(alloc, DEFAULT_ROWS);
         let (version, groups) = (self.version(), self.groups());
         match replies_to(
-            rt, alloc, version, network, groups, &mut made, &Numbers, pairs,
+            rt,
+            alloc,
+            version,
+            network,
+            groups,
+            &mut made,
+            &NumberPair,
+            pairs,
         ) {
             Ok(replies) => Ok(replies),
             Err(OutOfMemory) => Err(Refusal::OutOfMemory),

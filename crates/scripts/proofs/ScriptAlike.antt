@@ -11,7 +11,7 @@ use Rattle.std.proofs.lemmas.Bool.Decides.{nat_tests}
 use Rattle.dimacs.specs.declared.fault.Code.{Code}
 use Rattle.dimacs.specs.declared.fault.Code.TheVariants.{BadLine, NumberRange}
 use Rattle.dimacs.specs.declared.numerals.numeral.Numeral.{Numeral}
-use Rattle.dimacs.specs.Alike.{AreAlike, AllAlike, SaySame}
+use Rattle.dimacs.specs.Alike.{AreFieldsAlike, AllAlike, SaySame}
 use Rattle.dimacs.specs.Commands.{is_refused, command_code}
 use Rattle.dimacs.specs.Commanded.{Grouping, begins, ends, group_code, grouping_of}
 use Rattle.dimacs.specs.Content.{size_at}
@@ -23,7 +23,7 @@ use Rattle.dimacs.proofs.CommandRows.{kept_refused}
 use Rattle.dimacs.proofs.GroupCodes.{shut_of, still_shut}
 use Rattle.disk.specs.declared.stoppable.Pick.{Pick}
 use Rattle.scripts.specs.declared.script_texts.EventLines.{EventLines}
-use Rattle.scripts.specs.ScriptTexts.{ScriptLine, StepLine, StopWithinLine, numbered, is_pick, pick_from, picks_in, behind_picks, is_writing, writing_from, are_of_stop, stop_from, line_of, event_at, lines_in, is_no_call, is_no_byte, is_no_step, has_number_outside, event_code, script_line_code}
+use Rattle.scripts.specs.ScriptTexts.{ScriptLine, StepLine, StopWithinLine, numbered_words, is_pick, pick_from, picks_in, behind_picks, is_writing, writing_from, are_of_stop, stop_from, script_line_of, event_at, lines_in, is_no_call, is_no_byte, is_no_step, has_number_outside, event_code, script_line_code}
 use Rattle.scripts.specs.ScriptReading.{HasEvents}
 use Rattle.scripts.proofs.ScriptGroups.{behind_more}
 use Rattle.scripts.proofs.ScriptLines.{ignored}
@@ -69,7 +69,7 @@ readable_by test covers field none = by (numeral field) none
 
 -- Picks.
 
-pick_same : (x y : List ℕ) → AreAlike x y → is_pick x ≡ is_pick y
+pick_same : (x y : List ℕ) → AreFieldsAlike x y → is_pick x ≡ is_pick y
 pick_same x y e =
     ap (λ (b : Bool). (b || bytes_eq x (codes "new")) || is_some (numeral x)) (word_same x y (codes "old") e refl)
     ∙ ap (λ (b : Bool). (bytes_eq y (codes "old") || b) || is_some (numeral x)) (word_same x y (codes "new") e refl)
@@ -185,7 +185,7 @@ module _ (earlier : List Row) (x : List ℕ) (xs ys : Row) (alike : AllAlike xs 
         | inr no_stop ↦
             elim (cases_Bool (bytes_eq x (codes "step"))) [
               | inl step ↦ rw (no_stop, step, malformed_same 1 xs ys alike, pages_same xs ys alike) refl
-              | inr no_step ↦ rw (no_stop, no_step) (command_row_same numbered x xs ys alike earlier)
+              | inr no_step ↦ rw (no_stop, no_step) (command_row_same numbered_words x xs ys alike earlier)
             ]
       ]
 
@@ -202,32 +202,32 @@ module _ (earlier : List Row) (x : List ℕ) (xs ys : Row) (alike : AllAlike xs 
   no_code false true e = absurd cc
   no_code false false e = refl
 
-  stop_said : bytes_eq x (codes "stop") ≡ true → event_code earlier (x ∷ xs) ≡ None → line_of (x ∷ xs) ≡ line_of (x ∷ ys)
+  stop_said : bytes_eq x (codes "stop") ≡ true → event_code earlier (x ∷ xs) ≡ None → script_line_of (x ∷ xs) ≡ script_line_of (x ∷ ys)
   unfolding event_code
   stop_said stop clean =
       let is : x ≡ codes "stop" = (bytes_decides x (codes "stop")).0 stop in
       let judged : ◌≡◌ {A = Option Code} (cond (not (are_of_stop xs)) (Some BadLine) (cond (has_number_outside xs) (Some NumberRange) None)) None = rw stop at clean in
       rw is (ap Some (stop_same xs ys alike (no_code (not (are_of_stop xs)) (has_number_outside xs) judged)))
 
-  step_said : bytes_eq x (codes "stop") ≡ false → bytes_eq x (codes "step") ≡ true → event_code earlier (x ∷ xs) ≡ None → line_of (x ∷ xs) ≡ line_of (x ∷ ys)
+  step_said : bytes_eq x (codes "stop") ≡ false → bytes_eq x (codes "step") ≡ true → event_code earlier (x ∷ xs) ≡ None → script_line_of (x ∷ xs) ≡ script_line_of (x ∷ ys)
   unfolding event_code
   step_said no_stop step clean =
       let is : x ≡ codes "step" = (bytes_decides x (codes "step")).0 step in
       let judged : ◌≡◌ {A = Option Code} (cond (is_malformed 1 xs) (Some BadLine) (cond (some_at (λ is_none_such. is_none_such) (is_no_step ∷ []) xs) (Some NumberRange) None)) None = rw (no_stop, step) at clean in
       rw is (ap (λ (n : ℕ). Some (StepLine n)) (stepped_same xs ys alike (no_code (is_malformed 1 xs) _ judged)))
 
-  other_said : bytes_eq x (codes "stop") ≡ false → bytes_eq x (codes "step") ≡ false → event_code earlier (x ∷ xs) ≡ None → line_of (x ∷ xs) ≡ line_of (x ∷ ys)
+  other_said : bytes_eq x (codes "stop") ≡ false → bytes_eq x (codes "step") ≡ false → event_code earlier (x ∷ xs) ≡ None → script_line_of (x ∷ xs) ≡ script_line_of (x ∷ ys)
   unfolding event_code
   other_said no_stop no_step clean =
-      let code : command_code numbered earlier (x ∷ xs) ≡ None = rw (no_stop, no_step) at clean in
+      let code : command_code numbered_words earlier (x ∷ xs) ≡ None = rw (no_stop, no_step) at clean in
       elim (cases_Bool (is_empty (x ∷ xs) || is_remark 35 (x ∷ xs))) [
         | inl nothing ↦ (ignored earlier (x ∷ xs) nothing).1 ∙ sym (ignored earlier (x ∷ ys) nothing).1
         | inr other ↦
-            let same = size_at_same xs ys alike (all_readable is_refused refused_covers xs (none_refused numbered x xs ys alike earlier other code)) in
+            let same = size_at_same xs ys alike (all_readable is_refused refused_covers xs (none_refused numbered_words x xs ys alike earlier other code)) in
             rw (no_stop, same 0, same 1, same 2) refl
       ]
 
-  line_said : event_code earlier (x ∷ xs) ≡ None → line_of (x ∷ xs) ≡ line_of (x ∷ ys)
+  line_said : event_code earlier (x ∷ xs) ≡ None → script_line_of (x ∷ xs) ≡ script_line_of (x ∷ ys)
   line_said clean =
       elim (cases_Bool (bytes_eq x (codes "stop"))) [
         | inl stop ↦ stop_said stop clean

@@ -14,7 +14,7 @@ use Rattle.dimacs.specs.Faults.{Row, is_remark}
 use Rattle.dimacs.specs.Overflow.{has_other_byte, overflows}
 use Rattle.dimacs.proofs.Beyond.{long_no_word, no_numeral, first_is_long, many_or_other, malformed_beyond, bad_by_forms}
 use Rattle.dimacs.proofs.GroupCodes.{group_overflows}
-use Rattle.scripts.specs.ScriptTexts.{numbered, is_pick, is_some_of_most, is_writing, are_of_stop, behind_picks, event_code, script_line_code}
+use Rattle.scripts.specs.ScriptTexts.{numbered_words, is_pick, is_some_of_most, is_writing, are_of_stop, behind_picks, event_code, script_line_code}
 
 and_false : (b : Bool) → (b && false) ≡ false
 and_false true = refl
@@ -85,8 +85,8 @@ no_stop x (call ∷ zs) field after e =
     why (inr both) = inr both
 
 numbered_bad : (earlier : List Row) (before : Row) (field : List ℕ) (after : Row) → overflows before field ≡ true → is_remark 35 (before ++ field ∷ after) ≡ false
-    → command_code numbered earlier (before ++ field ∷ after) ≡ Some BadLine
-numbered_bad earlier before field after e other = bad_by_forms numbered earlier before field after refl (λ numbers none one two three. rw (none, one, two, three) refl) e other
+    → command_code numbered_words earlier (before ++ field ∷ after) ≡ Some BadLine
+numbered_bad earlier before field after e other = bad_by_forms numbered_words earlier before field after refl (λ numbers none one two three. rw (none, one, two, three) refl) e other
 
 event_overflows : (earlier : List Row) (before : Row) (field : List ℕ) (after : Row) → overflows before field ≡ true → is_remark 35 (before ++ field ∷ after) ≡ false
     → event_code earlier (before ++ field ∷ after) ≡ Some BadLine

@@ -10,7 +10,7 @@ use Rattle.dimacs.specs.declared.fault.Code.{Code}
 use Rattle.dimacs.specs.declared.fault.Code.TheVariants.{BadLine}
 use Rattle.dimacs.specs.Commands.{commands, command_code}
 use Rattle.dimacs.specs.Commanded.{begins, command_of, ends, group_code}
-use Rattle.dimacs.specs.CommandReading.{ReadsLine as ReadsCommand}
+use Rattle.dimacs.specs.CommandReading.{ReadsCommandLine as ReadsCommand}
 use Rattle.dimacs.specs.Faults.{Row, is_empty, is_remark}
 use Rattle.dimacs.specs.OpenGroups.{is_full_group, IsUnended, IsNotAdded}
 use Rattle.dimacs.specs.Taking.{ByMemory, Takes}
@@ -21,8 +21,8 @@ use Rattle.dimacs.proofs.Items.{by_memory_of, told}
 use Rattle.disk.specs.declared.stoppable.Pick.{Pick}
 use Rattle.machine.specs.declared.events.Event.{Event}
 use Rattle.scripts.specs.declared.script_texts.EventLines.{EventLines}
-use Rattle.scripts.specs.ScriptTexts.{ScriptLine, GroupLine, as_line, event_at, event_code, line_of, lines_behind, lines_in, script_line_code}
-use Rattle.scripts.specs.ScriptReading.{HasEvents, ReadsLine}
+use Rattle.scripts.specs.ScriptTexts.{ScriptLine, GroupLine, as_line, event_at, event_code, script_line_of, lines_behind, lines_in, script_line_code}
+use Rattle.scripts.specs.ScriptReading.{HasEvents, ReadsScriptLine}
 use Rattle.scripts.proofs.ScriptLines.{ignored_row}
 
 -- ---- one line more
@@ -160,10 +160,10 @@ module _ (earlier : List Row) (old : EventLines) (has : HasEvents earlier old) w
       out_of_group : script_line_code earlier row ≡ event_code earlier row
       out_of_group = as_event row shut no_begin no_end
 
-      at_line : event_at earlier row ≡ cons_option (line_of row) []
+      at_line : event_at earlier row ≡ cons_option (script_line_of row) []
       at_line = rw (no_end, no_begin, has.opened_is, shut) refl
 
-      pub takes_nothing : ReadsLine row (Ok None) → Takes script_line_code HasEvents earlier row old (Ok tt)
+      pub takes_nothing : ReadsScriptLine row (Ok None) → Takes script_line_code HasEvents earlier row old (Ok tt)
       takes_nothing reads = (
         out_of_group ∙ reads.0 earlier,
         record {
@@ -172,7 +172,7 @@ module _ (earlier : List Row) (old : EventLines) (has : HasEvents earlier old) w
         },
       )
 
-      pub takes_event : (event : Event Pick) (new : EventLines) → ReadsLine row (Ok (Some event)) → new.events.items ≡ old.events.items ++ event ∷ [] → new.open ≡ old.open → Takes script_line_code HasEvents earlier row new (Ok tt)
+      pub takes_event : (event : Event Pick) (new : EventLines) → ReadsScriptLine row (Ok (Some event)) → new.events.items ≡ old.events.items ++ event ∷ [] → new.open ≡ old.open → Takes script_line_code HasEvents earlier row new (Ok tt)
       takes_event event new reads pushed opened = (
         out_of_group ∙ reads.0 earlier,
         record {
@@ -181,10 +181,10 @@ module _ (earlier : List Row) (old : EventLines) (has : HasEvents earlier old) w
         },
       )
 
-      pub event_clean : (event : Event Pick) → ReadsLine row (Ok (Some event)) → script_line_code earlier row ≡ None
+      pub event_clean : (event : Event Pick) → ReadsScriptLine row (Ok (Some event)) → script_line_code earlier row ≡ None
       event_clean event reads = out_of_group ∙ reads.0 earlier
 
-      pub takes_fault : (code : Code) → ReadsLine row (Err code) → Takes script_line_code HasEvents earlier row old (Err code)
+      pub takes_fault : (code : Code) → ReadsScriptLine row (Err code) → Takes script_line_code HasEvents earlier row old (Err code)
       takes_fault code reads = by_memory_of code reads (λ fault. out_of_group ∙ fault earlier) (λ none. out_of_group ∙ none earlier)
 
 -- ---- a comment

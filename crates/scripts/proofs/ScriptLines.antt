@@ -19,11 +19,11 @@ use Rattle.dimacs.proofs.CommandRows.{number_right, numbers_right, three_right}
 use Rattle.dimacs.proofs.Items.{or-false}
 use Rattle.disk.specs.declared.stoppable.Pick.{Pick}
 use Rattle.machine.specs.declared.events.Event.{Event}
-use Rattle.scripts.specs.declared.script_words.Bare.{Bare}
-use Rattle.scripts.specs.declared.script_words.Bare.TheVariants.{Flush, Checkpoint, Task, Publish}
-use Rattle.scripts.specs.declared.script_words.Word.TheVariants.{WithNone, WithOne, WithTwo, Lay}
-use Rattle.scripts.specs.ScriptTexts.{as_line, line_of, numbered, is_stop, is_step, event_code}
-use Rattle.scripts.specs.ScriptReading.{spelling, bare_line, one_line, two_line, lay_line, ReadsEvent, ReadsLine}
+use Rattle.scripts.specs.declared.script_words.BareScriptWord.{BareScriptWord}
+use Rattle.scripts.specs.declared.script_words.BareScriptWord.TheVariants.{Flush, Checkpoint, Task, Publish}
+use Rattle.scripts.specs.declared.script_words.ScriptWord.TheVariants.{WithNone, WithOne, WithTwo, Lay}
+use Rattle.scripts.specs.ScriptTexts.{as_line, script_line_of, numbered_words, is_stop_line, is_step, event_code}
+use Rattle.scripts.specs.ScriptReading.{script_spelling, bare_script_line, one_script_line, two_script_line, lay_line, ReadsEvent, ReadsScriptLine}
 
 -- ---- lines that say nothing
 remark_code : (earlier : List Row) (bs : List ℕ) (others : Row) → ltb 0 (length (35 ∷ bs)) ≡ true → event_code earlier ((35 ∷ bs) ∷ others) ≡ None
@@ -34,10 +34,10 @@ empty_code : (earlier : List Row) → event_code earlier [] ≡ None
 unfolding event_code command_code
 empty_code earlier = refl
 
-no_event : (b : ℕ) (bs : List ℕ) (others : Row) → b ≡ 35 → line_of ((b ∷ bs) ∷ others) ≡ None
+no_event : (b : ℕ) (bs : List ℕ) (others : Row) → b ≡ 35 → script_line_of ((b ∷ bs) ∷ others) ≡ None
 no_event b bs others e = rw e refl
 
-pub ignored : (earlier : List Row) (row : Row) → (is_empty row || is_remark 35 row) ≡ true → (event_code earlier row ≡ None) × (line_of row ≡ None)
+pub ignored : (earlier : List Row) (row : Row) → (is_empty row || is_remark 35 row) ≡ true → (event_code earlier row ≡ None) × (script_line_of row ≡ None)
 ignored earlier [] e = (empty_code earlier, refl)
 ignored earlier ([] ∷ others) e = absurd (let absurdity : ⊥ = cc in absurdity)
 ignored earlier ((b ∷ bs) ∷ others) e =
@@ -46,51 +46,51 @@ ignored earlier ((b ∷ bs) ∷ others) e =
     let is : b ≡ 35 = eqb-true b 35 (rw some at e) in
     (rw is (remark_code earlier bs others still), no_event b bs others is)
 
-pub ignored_row : (row : Row) → (is_empty row || is_remark 35 row) ≡ true → ReadsLine row (Ok None)
+pub ignored_row : (row : Row) → (is_empty row || is_remark 35 row) ≡ true → ReadsScriptLine row (Ok None)
 ignored_row row e = ((λ earlier. (ignored earlier row e).0), (ignored [] row e).1)
 
-pub unknown_row : (row : Row) → (is_empty row || is_remark 35 row) ≡ false → is_stop row ≡ false → is_step row ≡ false → form_of numbered row ≡ None → ReadsLine row (Err BadLine)
+pub unknown_row : (row : Row) → (is_empty row || is_remark 35 row) ≡ false → is_stop_line row ≡ false → is_step row ≡ false → form_of numbered_words row ≡ None → ReadsScriptLine row (Err BadLine)
 unfolding event_code command_code
 unknown_row row e s p f = λ earlier. rw (s, p, e, f) refl
 
 -- ---- words with so many numbers behind them
 record IsForm (word : List ℕ) (n : ℕ) : Type 0 where
   plain : (numbers : Row) → (is_empty (word ∷ numbers) || is_remark 35 (word ∷ numbers)) ≡ false
-  no_stop : (numbers : Row) → is_stop (word ∷ numbers) ≡ false
+  no_stop : (numbers : Row) → is_stop_line (word ∷ numbers) ≡ false
   no_step : (numbers : Row) → is_step (word ∷ numbers) ≡ false
-  formed : (numbers : Row) → form_of numbered (word ∷ numbers) ≡ Some (form word n)
+  formed : (numbers : Row) → form_of numbered_words (word ∷ numbers) ≡ Some (form word n)
 
-bare_form : (word : Bare) → IsForm (spelling (WithNone word)) 0
+bare_form : (word : BareScriptWord) → IsForm (script_spelling (WithNone word)) 0
 bare_form Flush = record { plain = λ numbers. refl; no_stop = λ numbers. refl; no_step = λ numbers. refl; formed = λ numbers. refl }
 bare_form Checkpoint = record { plain = λ numbers. refl; no_stop = λ numbers. refl; no_step = λ numbers. refl; formed = λ numbers. refl }
 bare_form Task = record { plain = λ numbers. refl; no_stop = λ numbers. refl; no_step = λ numbers. refl; formed = λ numbers. refl }
 bare_form Publish = record { plain = λ numbers. refl; no_stop = λ numbers. refl; no_step = λ numbers. refl; formed = λ numbers. refl }
 
-one_form : (word : OneNumber) → IsForm (spelling (WithOne word)) 1
+one_form : (word : OneNumber) → IsForm (script_spelling (WithOne word)) 1
 one_form Close = record { plain = λ numbers. refl; no_stop = λ numbers. refl; no_step = λ numbers. refl; formed = λ numbers. refl }
 one_form Reopen = record { plain = λ numbers. refl; no_stop = λ numbers. refl; no_step = λ numbers. refl; formed = λ numbers. refl }
 one_form Mark = record { plain = λ numbers. refl; no_stop = λ numbers. refl; no_step = λ numbers. refl; formed = λ numbers. refl }
 one_form Unmark = record { plain = λ numbers. refl; no_stop = λ numbers. refl; no_step = λ numbers. refl; formed = λ numbers. refl }
 
-two_form : (word : TwoNumbers) → IsForm (spelling (WithTwo word)) 2
+two_form : (word : TwoNumbers) → IsForm (script_spelling (WithTwo word)) 2
 two_form Set = record { plain = λ numbers. refl; no_stop = λ numbers. refl; no_step = λ numbers. refl; formed = λ numbers. refl }
 two_form Dist = record { plain = λ numbers. refl; no_stop = λ numbers. refl; no_step = λ numbers. refl; formed = λ numbers. refl }
 two_form From = record { plain = λ numbers. refl; no_stop = λ numbers. refl; no_step = λ numbers. refl; formed = λ numbers. refl }
 two_form Lower = record { plain = λ numbers. refl; no_stop = λ numbers. refl; no_step = λ numbers. refl; formed = λ numbers. refl }
 
-bare_made : (word : Bare) (numbers : Row) → line_of (spelling (WithNone word) ∷ numbers) ≡ Some (bare_line word)
+bare_made : (word : BareScriptWord) (numbers : Row) → script_line_of (script_spelling (WithNone word) ∷ numbers) ≡ Some (bare_script_line word)
 bare_made Flush numbers = refl
 bare_made Checkpoint numbers = refl
 bare_made Task numbers = refl
 bare_made Publish numbers = refl
 
-one_made : (word : OneNumber) (numbers : Row) → line_of (spelling (WithOne word) ∷ numbers) ≡ Some (one_line word (size_at numbers 0))
+one_made : (word : OneNumber) (numbers : Row) → script_line_of (script_spelling (WithOne word) ∷ numbers) ≡ Some (one_script_line word (size_at numbers 0))
 one_made Close numbers = refl
 one_made Reopen numbers = refl
 one_made Mark numbers = refl
 one_made Unmark numbers = refl
 
-two_made : (word : TwoNumbers) (numbers : Row) → line_of (spelling (WithTwo word) ∷ numbers) ≡ Some (two_line word (size_at numbers 0) (size_at numbers 1))
+two_made : (word : TwoNumbers) (numbers : Row) → script_line_of (script_spelling (WithTwo word) ∷ numbers) ≡ Some (two_script_line word (size_at numbers 0) (size_at numbers 1))
 two_made Set numbers = refl
 two_made Dist numbers = refl
 two_made From numbers = refl
@@ -116,54 +116,54 @@ module _ (word : List ℕ) where
   code_of_two earlier u v a b f d e = rw (f.no_stop (u ∷ v ∷ []), f.no_step (u ∷ v ∷ []), f.plain (u ∷ v ∷ []), f.formed (u ∷ v ∷ []), d, e) (simp or-false)
 
 -- ---- a word alone
-pub bare_says : (word : Bare) (rest : Row) (event : Event Pick) → rest ≡ [] → as_line event ≡ bare_line word → ReadsEvent (spelling (WithNone word) ∷ rest) (Ok event)
-bare_says word rest event none is = rw none ((λ earlier. code_alone (spelling (WithNone word)) earlier (bare_form word)), bare_made word [] ∙ ap Some (sym is))
+pub bare_says : (word : BareScriptWord) (rest : Row) (event : Event Pick) → rest ≡ [] → as_line event ≡ bare_script_line word → ReadsEvent (script_spelling (WithNone word) ∷ rest) (Ok event)
+bare_says word rest event none is = rw none ((λ earlier. code_alone (script_spelling (WithNone word)) earlier (bare_form word)), bare_made word [] ∙ ap Some (sym is))
 
-pub bare_fault : (word : Bare) (rest others : Row) (first : List ℕ) → rest ≡ first ∷ others → ReadsEvent (spelling (WithNone word) ∷ rest) (Err BadLine)
+pub bare_fault : (word : BareScriptWord) (rest others : Row) (first : List ℕ) → rest ≡ first ∷ others → ReadsEvent (script_spelling (WithNone word) ∷ rest) (Err BadLine)
 bare_fault word rest others first is =
     let long : eqb (length (first ∷ others)) 0 ≡ false = ne_eqb _ _ (λ e. absurd (omega arith)) in
     let bad : is_malformed 0 (first ∷ others) ≡ true = rw long refl in
-    rw is (λ earlier. malformed (spelling (WithNone word)) 0 earlier (first ∷ others) (bare_form word) bad)
+    rw is (λ earlier. malformed (script_spelling (WithNone word)) 0 earlier (first ∷ others) (bare_form word) bad)
 
 -- ---- numbers
 -- ---- a word with one number
 abbrev RightOne : OneNumber → Row → Result ℕ Code → Type 0
-RightOne word numbers (Ok n) = ((earlier : List Row) → event_code earlier (spelling (WithOne word) ∷ numbers) ≡ None) × (line_of (spelling (WithOne word) ∷ numbers) ≡ Some (one_line word n))
-RightOne word numbers (Err code) = ReadsEvent (spelling (WithOne word) ∷ numbers) (Err code)
+RightOne word numbers (Ok n) = ((earlier : List Row) → event_code earlier (script_spelling (WithOne word) ∷ numbers) ≡ None) × (script_line_of (script_spelling (WithOne word) ∷ numbers) ≡ Some (one_script_line word n))
+RightOne word numbers (Err code) = ReadsEvent (script_spelling (WithOne word) ∷ numbers) (Err code)
 
 one_row : (word : OneNumber) (numbers : Row) → RightOne word numbers (number_read (one_numeral numbers))
 one_row word =
     number_right (RightOne word)
-    (λ numbers bad earlier. malformed (spelling (WithOne word)) 1 earlier numbers (one_form word) bad)
-    (λ u a e bad earlier. code_of_one (spelling (WithOne word)) earlier u a (one_form word) e ∙ rw bad refl)
-    (λ u a e good. ((λ earlier. code_of_one (spelling (WithOne word)) earlier u a (one_form word) e ∙ rw good refl), one_made word (u ∷ [])))
+    (λ numbers bad earlier. malformed (script_spelling (WithOne word)) 1 earlier numbers (one_form word) bad)
+    (λ u a e bad earlier. code_of_one (script_spelling (WithOne word)) earlier u a (one_form word) e ∙ rw bad refl)
+    (λ u a e good. ((λ earlier. code_of_one (script_spelling (WithOne word)) earlier u a (one_form word) e ∙ rw good refl), one_made word (u ∷ [])))
 
-pub one_says : (word : OneNumber) (numbers : Row) (n : ℕ) (event : Event Pick) → Ok n ≡ number_read (one_numeral numbers) → as_line event ≡ one_line word n → ReadsEvent (spelling (WithOne word) ∷ numbers) (Ok event)
+pub one_says : (word : OneNumber) (numbers : Row) (n : ℕ) (event : Event Pick) → Ok n ≡ number_read (one_numeral numbers) → as_line event ≡ one_script_line word n → ReadsEvent (script_spelling (WithOne word) ∷ numbers) (Ok event)
 one_says word numbers n event read is =
     let right : RightOne word numbers (Ok n) = subst (RightOne word numbers) (sym read) (one_row word numbers) in
     (right.0, right.1 ∙ ap Some (sym is))
 
-pub one_fault : (word : OneNumber) (numbers : Row) (code : Code) → Err code ≡ number_read (one_numeral numbers) → ReadsEvent (spelling (WithOne word) ∷ numbers) (Err code)
+pub one_fault : (word : OneNumber) (numbers : Row) (code : Code) → Err code ≡ number_read (one_numeral numbers) → ReadsEvent (script_spelling (WithOne word) ∷ numbers) (Err code)
 one_fault word numbers code read = subst (RightOne word numbers) (sym read) (one_row word numbers)
 
 -- ---- a word with two numbers
 abbrev RightTwo : TwoNumbers → Row → Result (ℕ × ℕ) Code → Type 0
-RightTwo word numbers (Ok n) = ((earlier : List Row) → event_code earlier (spelling (WithTwo word) ∷ numbers) ≡ None) × (line_of (spelling (WithTwo word) ∷ numbers) ≡ Some (two_line word n.0 n.1))
-RightTwo word numbers (Err code) = ReadsEvent (spelling (WithTwo word) ∷ numbers) (Err code)
+RightTwo word numbers (Ok n) = ((earlier : List Row) → event_code earlier (script_spelling (WithTwo word) ∷ numbers) ≡ None) × (script_line_of (script_spelling (WithTwo word) ∷ numbers) ≡ Some (two_script_line word n.0 n.1))
+RightTwo word numbers (Err code) = ReadsEvent (script_spelling (WithTwo word) ∷ numbers) (Err code)
 
 two_row : (word : TwoNumbers) (numbers : Row) → RightTwo word numbers (numbers_read (two_numerals numbers))
 two_row word =
     numbers_right (RightTwo word)
-    (λ numbers bad earlier. malformed (spelling (WithTwo word)) 2 earlier numbers (two_form word) bad)
-    (λ u v a b d e bad earlier. code_of_two (spelling (WithTwo word)) earlier u v a b (two_form word) d e ∙ rw bad refl)
-    (λ u v a b d e good. ((λ earlier. code_of_two (spelling (WithTwo word)) earlier u v a b (two_form word) d e ∙ rw good refl), two_made word (u ∷ v ∷ [])))
+    (λ numbers bad earlier. malformed (script_spelling (WithTwo word)) 2 earlier numbers (two_form word) bad)
+    (λ u v a b d e bad earlier. code_of_two (script_spelling (WithTwo word)) earlier u v a b (two_form word) d e ∙ rw bad refl)
+    (λ u v a b d e good. ((λ earlier. code_of_two (script_spelling (WithTwo word)) earlier u v a b (two_form word) d e ∙ rw good refl), two_made word (u ∷ v ∷ [])))
 
-pub two_says : (word : TwoNumbers) (numbers : Row) (n : ℕ × ℕ) (event : Event Pick) → Ok n ≡ numbers_read (two_numerals numbers) → as_line event ≡ two_line word n.0 n.1 → ReadsEvent (spelling (WithTwo word) ∷ numbers) (Ok event)
+pub two_says : (word : TwoNumbers) (numbers : Row) (n : ℕ × ℕ) (event : Event Pick) → Ok n ≡ numbers_read (two_numerals numbers) → as_line event ≡ two_script_line word n.0 n.1 → ReadsEvent (script_spelling (WithTwo word) ∷ numbers) (Ok event)
 two_says word numbers n event read is =
     let right : RightTwo word numbers (Ok n) = subst (RightTwo word numbers) (sym read) (two_row word numbers) in
     (right.0, right.1 ∙ ap Some (sym is))
 
-pub two_fault : (word : TwoNumbers) (numbers : Row) (code : Code) → Err code ≡ numbers_read (two_numerals numbers) → ReadsEvent (spelling (WithTwo word) ∷ numbers) (Err code)
+pub two_fault : (word : TwoNumbers) (numbers : Row) (code : Code) → Err code ≡ numbers_read (two_numerals numbers) → ReadsEvent (script_spelling (WithTwo word) ∷ numbers) (Err code)
 two_fault word numbers code read = subst (RightTwo word numbers) (sym read) (two_row word numbers)
 
 -- ---- `lay` and its three numbers
@@ -177,7 +177,7 @@ unfolding event_code command_code
 malformed_three earlier numbers e = rw e refl
 
 abbrev RightThree : Row → Result (ℕ × ℕ × ℕ) Code → Type 0
-RightThree numbers (Ok n) = ((earlier : List Row) → event_code earlier (codes "lay" ∷ numbers) ≡ None) × (line_of (codes "lay" ∷ numbers) ≡ Some (lay_line n.0 n.1 n.2))
+RightThree numbers (Ok n) = ((earlier : List Row) → event_code earlier (codes "lay" ∷ numbers) ≡ None) × (script_line_of (codes "lay" ∷ numbers) ≡ Some (lay_line n.0 n.1 n.2))
 RightThree numbers (Err code) = ReadsEvent (codes "lay" ∷ numbers) (Err code)
 
 three_row : (numbers : Row) → RightThree numbers (three_read (three_numerals numbers))
@@ -187,10 +187,10 @@ three_row =
     (λ u v w a b d e f g bad earlier. code_of_three earlier u v w a b d e f g ∙ rw bad refl)
     (λ u v w a b d e f g good. ((λ earlier. code_of_three earlier u v w a b d e f g ∙ rw good refl), refl))
 
-pub lay_says : (numbers : Row) (n : ℕ × ℕ × ℕ) (event : Event Pick) → Ok n ≡ three_read (three_numerals numbers) → as_line event ≡ lay_line n.0 n.1 n.2 → ReadsEvent (spelling Lay ∷ numbers) (Ok event)
+pub lay_says : (numbers : Row) (n : ℕ × ℕ × ℕ) (event : Event Pick) → Ok n ≡ three_read (three_numerals numbers) → as_line event ≡ lay_line n.0 n.1 n.2 → ReadsEvent (script_spelling Lay ∷ numbers) (Ok event)
 lay_says numbers n event read is =
     let right : RightThree numbers (Ok n) = subst (RightThree numbers) (sym read) (three_row numbers) in
     (right.0, right.1 ∙ ap Some (sym is))
 
-pub lay_fault : (numbers : Row) (code : Code) → Err code ≡ three_read (three_numerals numbers) → ReadsEvent (spelling Lay ∷ numbers) (Err code)
+pub lay_fault : (numbers : Row) (code : Code) → Err code ≡ three_read (three_numerals numbers) → ReadsEvent (script_spelling Lay ∷ numbers) (Err code)
 lay_fault numbers code read = subst (RightThree numbers) (sym read) (three_row numbers)

@@ -20,14 +20,14 @@ use Rattle.disk.specs.declared.stoppable.Pick.{Pick}
 use Rattle.machine.specs.declared.events.Event.{Event}
 use Rattle.machine.specs.declared.events.Writing.{Writing}
 use Rattle.scripts.specs.declared.script_stops.PicksRead.{PicksRead}
-use Rattle.scripts.specs.ScriptTexts.{ScriptLine, FlushLine, CheckpointLine, StepLine, StopLine, StopWithinLine, as_line, writing_line, line_of, picks_in, behind_picks, pick_from, writing_from, is_pick, is_writing, is_some_of_most, are_of_stop, is_no_call, is_no_byte, is_no_step, has_number_outside, event_code}
+use Rattle.scripts.specs.ScriptTexts.{ScriptLine, FlushLine, CheckpointLine, StepLine, StopLine, StopWithinLine, as_line, writing_line, script_line_of, picks_in, behind_picks, pick_from, writing_from, is_pick, is_writing, is_some_of_most, are_of_stop, is_no_call, is_no_byte, is_no_step, has_number_outside, event_code}
 use Rattle.scripts.specs.ScriptReading.{call_of_numeral, call_read, step_read, writing_read, map_line, cut_within, cut_of, picks_read, IsUnlessMemory, ReadsPicks, ReadsEvent}
 use Rattle.dimacs.proofs.CommandRows.{kept_refused, kept_number}
 use Rattle.scripts.proofs.ScriptPicks.{AllPicks, all_picks, many_picks}
 use Rattle.scripts.proofs.ScriptSteps.{no_step_kept}
 
 -- ---- no field
-pub stop_alone : (rest : Row) → rest ≡ [] → ((earlier : List Row) → event_code earlier (codes "stop" ∷ rest) ≡ None) × (line_of (codes "stop" ∷ rest) ≡ Some StopLine)
+pub stop_alone : (rest : Row) → rest ≡ [] → ((earlier : List Row) → event_code earlier (codes "stop" ∷ rest) ≡ None) × (script_line_of (codes "stop" ∷ rest) ≡ Some StopLine)
 unfolding event_code
 stop_alone rest none = rw none ((λ earlier. refl), refl)
 
@@ -122,7 +122,7 @@ writing_cases (word ∷ behind) = word_case word behind
 -- ---- all of them
 -- what a line says, by the line of its event
 abbrev SaysLine : Row → Result ScriptLine Code → Type 0
-SaysLine row (Ok line) = ((earlier : List Row) → event_code earlier row ≡ None) × (line_of row ≡ Some line)
+SaysLine row (Ok line) = ((earlier : List Row) → event_code earlier row ≡ None) × (script_line_of row ≡ Some line)
 SaysLine row (Err code) = (earlier : List Row) → event_code earlier row ≡ Some code
 
 bad_line : (others : Row) (earlier : List Row) → are_of_stop others ≡ false → event_code earlier (codes "stop" ∷ others) ≡ Some BadLine
@@ -146,9 +146,9 @@ module _ (call : List ℕ) (behind : Row) where
   outside_all a b c e f g = ap (λ (x : Bool). (x || false) || some_numeral is_no_byte (picks_in behind) || some_numeral is_no_step (item_fields (behind_picks behind))) e
       ∙ (ap (λ (y : Bool). (a || false) || y || some_numeral is_no_step (item_fields (behind_picks behind))) f ∙ ap (λ (z : Bool). (a || false) || b || z) g)
 
-  says_all : (n : ℕ) (ps : List Pick) (line : ScriptLine) → size_of call ≡ n → map pick_from (picks_in behind) ≡ ps → writing_from (behind_picks behind) ≡ line → line_of (codes "stop" ∷ all) ≡ Some (StopWithinLine n ps line)
+  says_all : (n : ℕ) (ps : List Pick) (line : ScriptLine) → size_of call ≡ n → map pick_from (picks_in behind) ≡ ps → writing_from (behind_picks behind) ≡ line → script_line_of (codes "stop" ∷ all) ≡ Some (StopWithinLine n ps line)
   says_all n ps line e f g =
-      let whole : line_of (codes "stop" ∷ all) ≡ Some (StopWithinLine (size_of call) (map pick_from (picks_in behind)) (writing_from (behind_picks behind))) = refl in
+      let whole : script_line_of (codes "stop" ∷ all) ≡ Some (StopWithinLine (size_of call) (map pick_from (picks_in behind)) (writing_from (behind_picks behind))) = refl in
       whole ∙ (ap (λ (x : ℕ). Some (StopWithinLine x (map pick_from (picks_in behind)) (writing_from (behind_picks behind)))) e
       ∙ (ap (λ (y : List Pick). Some (StopWithinLine n y (writing_from (behind_picks behind)))) f ∙ ap (λ (z : ScriptLine). Some (StopWithinLine n ps z)) g))
 

@@ -22,58 +22,58 @@ use Rattle.disk.specs.declared.stoppable.Pick.{Pick}
 use Rattle.disk.specs.declared.stoppable.Pick.TheVariants.{Old, New, Byte}
 use Rattle.rows.specs.declared.queries.Query.TheVariants.{Dist as distance, From as distance_from, Lower as lower_bound}
 use Rattle.machine.specs.declared.events.Event.{Event}
-use Rattle.scripts.specs.declared.script_words.Bare.{Bare}
-use Rattle.scripts.specs.declared.script_words.Bare.TheVariants.{Flush, Checkpoint, Task, Publish}
-use Rattle.scripts.specs.declared.script_words.Word.{Word}
-use Rattle.scripts.specs.declared.script_words.Word.TheVariants.{WithNone, WithOne, WithTwo, Lay, Stop, Step}
+use Rattle.scripts.specs.declared.script_words.BareScriptWord.{BareScriptWord}
+use Rattle.scripts.specs.declared.script_words.BareScriptWord.TheVariants.{Flush, Checkpoint, Task, Publish}
+use Rattle.scripts.specs.declared.script_words.ScriptWord.{ScriptWord}
+use Rattle.scripts.specs.declared.script_words.ScriptWord.TheVariants.{WithNone, WithOne, WithTwo, Lay, Stop, Step}
 use Rattle.scripts.specs.declared.script_stops.PicksRead.{PicksRead}
 use Rattle.scripts.specs.declared.script_stops.WritingWord.{WritingWord}
 use Rattle.scripts.specs.declared.script_stops.WritingWord.TheVariants.{Flush as flush_word, Checkpoint as checkpoint_word, Step as step_word}
-use Rattle.scripts.specs.declared.script_texts.Kind.{Kind}
-use Rattle.scripts.specs.declared.script_texts.Kind.TheVariants.{Ignored, Known, Unknown}
+use Rattle.scripts.specs.declared.script_texts.ScriptLineKind.{ScriptLineKind}
+use Rattle.scripts.specs.declared.script_texts.ScriptLineKind.TheVariants.{Ignored, Known, Unknown}
 use Rattle.scripts.specs.declared.script_texts.EventLines.{EventLines}
-use Rattle.scripts.specs.ScriptTexts.{ScriptLine, GroupLine, FlushLine, CheckpointLine, StepLine, TaskLine, PublishLine, QueryLine, StopWithinLine, as_line, line_of, lines_in, numbered, is_stop, is_step, is_pick, pick_from, most_picks, is_some_of_most, is_no_call, is_no_byte, is_no_step, event_code}
+use Rattle.scripts.specs.ScriptTexts.{ScriptLine, GroupLine, FlushLine, CheckpointLine, StepLine, TaskLine, PublishLine, QueryLine, StopWithinLine, as_line, script_line_of, lines_in, numbered_words, is_stop_line, is_step, is_pick, pick_from, most_picks, is_some_of_most, is_no_call, is_no_byte, is_no_step, event_code}
 
 -- WORDS
 
-abbrev pub spelling : Word → List ℕ
-spelling (WithNone Flush) = codes "flush"
-spelling (WithNone Checkpoint) = codes "checkpoint"
-spelling (WithNone Task) = codes "task"
-spelling (WithNone Publish) = codes "publish"
-spelling (WithOne word) = one_spelling word
-spelling (WithTwo word) = two_spelling word
-spelling Lay = codes "lay"
-spelling Stop = codes "stop"
-spelling Step = codes "step"
+abbrev pub script_spelling : ScriptWord → List ℕ
+script_spelling (WithNone Flush) = codes "flush"
+script_spelling (WithNone Checkpoint) = codes "checkpoint"
+script_spelling (WithNone Task) = codes "task"
+script_spelling (WithNone Publish) = codes "publish"
+script_spelling (WithOne word) = one_spelling word
+script_spelling (WithTwo word) = two_spelling word
+script_spelling Lay = codes "lay"
+script_spelling Stop = codes "stop"
+script_spelling Step = codes "step"
 
-abbrev pub words : List Word
-words = WithNone Flush ∷ WithNone Checkpoint ∷ WithNone Task ∷ WithNone Publish ∷ [] ++ map WithOne one_words ++ map WithTwo two_words ++ Lay ∷ Stop ∷ Step ∷ []
+abbrev pub script_words : List ScriptWord
+script_words = WithNone Flush ∷ WithNone Checkpoint ∷ WithNone Task ∷ WithNone Publish ∷ [] ++ map WithOne one_words ++ map WithTwo two_words ++ Lay ∷ Stop ∷ Step ∷ []
 
 -- the word that a field spells
-abbrev pub word_from : List ℕ → Option Word
-word_from field = spelled_word spelling words field
+abbrev pub script_word_from : List ℕ → Option ScriptWord
+script_word_from field = spelled_word script_spelling script_words field
 
-abbrev pub IsKind : Row → Kind → Type 0
-IsKind row Ignored = (is_empty row || is_remark 35 row) ≡ true
-IsKind row (Known word rest) = row ≡ spelling word ∷ fields rest.now
-IsKind row Unknown = ((is_empty row || is_remark 35 row) ≡ false) × (is_stop row ≡ false) × (is_step row ≡ false) × (form_of numbered row ≡ None)
+abbrev pub IsScriptLineKind : Row → ScriptLineKind → Type 0
+IsScriptLineKind row Ignored = (is_empty row || is_remark 35 row) ≡ true
+IsScriptLineKind row (Known word rest) = row ≡ script_spelling word ∷ fields rest.now
+IsScriptLineKind row Unknown = ((is_empty row || is_remark 35 row) ≡ false) × (is_stop_line row ≡ false) × (is_step row ≡ false) × (form_of numbered_words row ≡ None)
 
 -- what a word says with its numbers
-abbrev pub bare_line : Bare → ScriptLine
-bare_line Flush = FlushLine
-bare_line Checkpoint = CheckpointLine
-bare_line Task = TaskLine
-bare_line Publish = PublishLine
+abbrev pub bare_script_line : BareScriptWord → ScriptLine
+bare_script_line Flush = FlushLine
+bare_script_line Checkpoint = CheckpointLine
+bare_script_line Task = TaskLine
+bare_script_line Publish = PublishLine
 
-abbrev pub one_line : OneNumber → ℕ → ScriptLine
-one_line word n = GroupLine (one_command word n ∷ [])
+abbrev pub one_script_line : OneNumber → ℕ → ScriptLine
+one_script_line word n = GroupLine (one_command word n ∷ [])
 
-abbrev pub two_line : TwoNumbers → ℕ → ℕ → ScriptLine
-two_line Set n m = GroupLine (set_arc n m ∷ [])
-two_line Dist n m = QueryLine (distance n m)
-two_line From n m = QueryLine (distance_from n m)
-two_line Lower n m = QueryLine (lower_bound n m)
+abbrev pub two_script_line : TwoNumbers → ℕ → ℕ → ScriptLine
+two_script_line Set n m = GroupLine (set_arc n m ∷ [])
+two_script_line Dist n m = QueryLine (distance n m)
+two_script_line From n m = QueryLine (distance_from n m)
+two_script_line Lower n m = QueryLine (lower_bound n m)
 
 abbrev pub lay_line : ℕ → ℕ → ℕ → ScriptLine
 lay_line tail head length = GroupLine (lay_arc tail head length ∷ [])
@@ -165,14 +165,14 @@ IsUnlessMemory judged (Err code) = ByMemory code (judged ≡ Err code) ((line : 
 
 -- the line has no fault and is this event, or its code is told; or it has no fault, and memory ran out
 abbrev pub ReadsEvent : Row → Result (Event Pick) Code → Type 0
-ReadsEvent row (Ok event) = ((earlier : List Row) → event_code earlier row ≡ None) × (line_of row ≡ Some (as_line event))
+ReadsEvent row (Ok event) = ((earlier : List Row) → event_code earlier row ≡ None) × (script_line_of row ≡ Some (as_line event))
 ReadsEvent row (Err code) = ByMemory code ((earlier : List Row) → event_code earlier row ≡ Some code) ((earlier : List Row) → event_code earlier row ≡ None)
 
 -- the same of a line that may say nothing
-abbrev pub ReadsLine : Row → Result (Option (Event Pick)) Code → Type 0
-ReadsLine row (Ok None) = ((earlier : List Row) → event_code earlier row ≡ None) × (line_of row ≡ None)
-ReadsLine row (Ok (Some event)) = ReadsEvent row (Ok event)
-ReadsLine row (Err code) = ReadsEvent row (Err code)
+abbrev pub ReadsScriptLine : Row → Result (Option (Event Pick)) Code → Type 0
+ReadsScriptLine row (Ok None) = ((earlier : List Row) → event_code earlier row ≡ None) × (script_line_of row ≡ None)
+ReadsScriptLine row (Ok (Some event)) = ReadsEvent row (Ok event)
+ReadsScriptLine row (Err code) = ReadsEvent row (Err code)
 
 -- these lines were taken
 pub record HasEvents (lines : List Row) (taken : EventLines) : Type 0 where

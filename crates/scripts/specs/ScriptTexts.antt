@@ -80,8 +80,8 @@ stop_from [] = StopLine
 stop_from (call ∷ behind) = StopWithinLine (size_of call) (map pick_from (picks_in behind)) (writing_from (behind_picks behind))
 
 -- the event of a word and the fields behind it
-abbrev pub line_from : List ℕ → Row → Option ScriptLine
-line_from word others = if bytes_eq word (codes "flush") then Some FlushLine
+abbrev pub script_line_from : List ℕ → Row → Option ScriptLine
+script_line_from word others = if bytes_eq word (codes "flush") then Some FlushLine
     else (if bytes_eq word (codes "checkpoint") then Some CheckpointLine
     else (if bytes_eq word (codes "task") then Some TaskLine
     else (if bytes_eq word (codes "publish") then Some PublishLine
@@ -93,16 +93,16 @@ line_from word others = if bytes_eq word (codes "flush") then Some FlushLine
     else option_map (λ command. GroupLine (command ∷ [])) (command_from word others)))))))))
 
 -- the event of a line that stands in no group, if it has one
-abbrev pub line_of : Row → Option ScriptLine
-line_of [] = None
-line_of (word ∷ others) = line_from word others
+abbrev pub script_line_of : Row → Option ScriptLine
+script_line_of [] = None
+script_line_of (word ∷ others) = script_line_from word others
 
 -- the event that a line gives behind the earlier ones, if it gives one: that of a group stands at its `end`
 abbrev pub event_at : List Row → Row → List ScriptLine
 event_at earlier row =
     if ends row then GroupLine (unwrap_or (grouping_of earlier).opened []) ∷ [] else
     if begins row || is_some (grouping_of earlier).opened then [] else
-    cons_option (line_of row) []
+    cons_option (script_line_of row) []
 
 -- the events of these lines behind the earlier ones, in their order
 abbrev pub lines_behind : List Row → List Row → List ScriptLine
@@ -116,11 +116,11 @@ lines_in rs = lines_behind [] rs
 -- WHAT A LINE IS REFUSED FOR
 
 -- the words of commands and of events, with how many numbers follow them
-abbrev pub numbered : List Form
-numbered = commands ++ form (codes "flush") 0 ∷ form (codes "checkpoint") 0 ∷ form (codes "task") 0 ∷ form (codes "publish") 0 ∷ form (codes "dist") 2 ∷ form (codes "from") 2 ∷ form (codes "lower") 2 ∷ []
+abbrev pub numbered_words : List Form
+numbered_words = commands ++ form (codes "flush") 0 ∷ form (codes "checkpoint") 0 ∷ form (codes "task") 0 ∷ form (codes "publish") 0 ∷ form (codes "dist") 2 ∷ form (codes "from") 2 ∷ form (codes "lower") 2 ∷ []
 
-abbrev pub is_stop : Row → Bool
-is_stop row = has_first (λ first. bytes_eq first (codes "stop")) row
+abbrev pub is_stop_line : Row → Bool
+is_stop_line row = has_first (λ first. bytes_eq first (codes "stop")) row
 
 abbrev pub is_step : Row → Bool
 is_step row = has_first (λ first. bytes_eq first (codes "step")) row
@@ -173,8 +173,8 @@ step_applies others code = false
 
 -- the code of a line that stands in no group: of `stop` and `step` lines by their tables, of the others by that of command texts
 unfoldable pub event_code : Judge
-event_code earlier row = if is_stop row then find (stop_applies (item_fields row)) (BadLine ∷ NumberRange ∷ [])
-    else (if is_step row then find (step_applies (item_fields row)) (BadLine ∷ NumberRange ∷ []) else command_code numbered earlier row)
+event_code earlier row = if is_stop_line row then find (stop_applies (item_fields row)) (BadLine ∷ NumberRange ∷ [])
+    else (if is_step row then find (step_applies (item_fields row)) (BadLine ∷ NumberRange ∷ []) else command_code numbered_words earlier row)
 
 -- The code of a line of a script. `begin`, `end` and the lines within a group are judged as in a command text, so that a line of another kind
 -- within one is BadLine.

@@ -2,15 +2,17 @@
 ghost use Rattle.std.specs.Prelude.{◌≡◌, ◌≢◌, ◌∷◌, List, length, true, false, None, Some, Ok, IfSome, IfErr, map};
 ghost use Rattle.dimacs.specs.Lines.{fields};
 ghost use Rattle.dimacs.specs.Faults.{Row};
-ghost use Rattle.dimacs.specs.Texts.{InMemory, Ends, Reads, map_ok};
+ghost use Rattle.dimacs.specs.Texts.{InMemory, EndsText, ReadsText, map_ok};
 ghost use Rattle.dimacs.specs.Calling.{KeepsText};
 ghost use Rattle.dimacs.specs.Counts.{CountsFailures};
 ghost use Rattle.scripts.specs.ScriptTexts.{as_line, script_text};
-ghost use Rattle.scripts.specs.ScriptReading.{HasEvents, IsKind, spelling, ReadsEvent, ReadsLine};
+ghost use Rattle.scripts.specs.ScriptReading.{HasEvents, IsScriptLineKind, script_spelling, ReadsEvent, ReadsScriptLine};
 
 use crate::script_steps::step_event;
 use crate::script_stops::stop_event;
-use crate::script_words::{Bare, Word, bare_event, lay_event, one_event, two_event, word_of};
+use crate::script_words::{
+    BareScriptWord, ScriptWord, bare_event, lay_event, one_event, two_event, word_of,
+};
 use dimacs::{
     Bound, Code, Ended, Fault, OneNumber, OpenGroup, TakeLines, Text, TwoNumbers, bound_of,
     is_blank, number, read_command, split_field, three_numbers, two_numbers,
@@ -30,28 +32,28 @@ pub struct EventLines {
 }
 
 /// A line by its word, with what follows it.
-enum Kind<'a> {
+enum ScriptLineKind<'a> {
     /// A line with no field, or a comment.
     Ignored,
-    Known(Word, &'a [u8]),
+    Known(ScriptWord, &'a [u8]),
     Unknown,
 }
 
-fn kind_of(line: &[u8]) -> Kind<'_>
-    ensures { IsKind (fields line.now) result }
+fn kind_of(line: &[u8]) -> ScriptLineKind<'_>
+    ensures { IsScriptLineKind (fields line.now) result }
 {
     match split_field(line) {
-        None | Some(([b'#', ..], _)) => Kind::Ignored,
+        None | Some(([b'#', ..], _)) => ScriptLineKind::Ignored,
         Some((first, rest)) => match word_of(first) {
-            Some(word) => Kind::Known(word, rest),
-            None => Kind::Unknown,
+            Some(word) => ScriptLineKind::Known(word, rest),
+            None => ScriptLineKind::Unknown,
         },
     }
 }
 
 /// The event of a word alone, or the fault of what follows it.
-fn read_bare(word: Bare, rest: &[u8]) -> Result<Event<Pick>, Code>
-    ensures { ReadsEvent (spelling (Word.WithNone word) ∷ fields rest.now) result }
+fn read_bare(word: BareScriptWord, rest: &[u8]) -> Result<Event<Pick>, Code>
+    ensures { ReadsEvent (script_spelling (ScriptWord.WithNone word) ∷ fields rest.now) result }
 {
     match split_field(rest) {
         None => Ok(bare_event(word)),
@@ -61,14 +63,14 @@ fn read_bare(word: Bare, rest: &[u8]) -> Result<Event<Pick>, Code>
 
 /// The event of a word with one number, or the fault of what follows it.
 fn read_one(word: OneNumber, rest: &[u8]) -> Result<Event<Pick>, Code>
-    ensures { ReadsEvent (spelling (Word.WithOne word) ∷ fields rest.now) result }
+    ensures { ReadsEvent (script_spelling (ScriptWord.WithOne word) ∷ fields rest.now) result }
 {
     Ok(one_event(word, number(rest)?))
 }
 
 /// The event of a word with two numbers, or the fault of what follows it.
 fn read_two(word: TwoNumbers, rest: &[u8]) -> Result<Event<Pick>, Code>
-    ensures { ReadsEvent (spelling (Word.WithTwo word) ∷ fields rest.now) result }
+    ensures { ReadsEvent (script_spelling (ScriptWord.WithTwo word) ∷ fields rest.now) result }
 {
     let (first, second) = two_numbers(rest)?;
     Ok(two_event(word, first, second))
@@ -76,34 +78,34 @@ fn read_two(word: TwoNumbers, rest: &[u8]) -> Result<Event<Pick>, Code>
 
 /// The event of `lay`, or the fault of what follows it.
 fn read_lay(rest: &[u8]) -> Result<Event<Pick>, Code>
-    ensures { ReadsEvent (spelling Word.Lay ∷ fields rest.now) result }
+    ensures { ReadsEvent (script_spelling ScriptWord.Lay ∷ fields rest.now) result }
 {
     let (tail, head, length) = three_numbers(rest)?;
     Ok(lay_event(tail, head, length))
 }
 
 /// The event of a word, or the fault of what follows it.
-fn read_event(alloc: Global, word: Word, rest: &[u8]) -> Result<Event<Pick>, Code>
-    ensures { ReadsEvent (spelling word ∷ fields rest.now) result }
+fn read_event(alloc: Global, word: ScriptWord, rest: &[u8]) -> Result<Event<Pick>, Code>
+    ensures { ReadsEvent (script_spelling word ∷ fields rest.now) result }
 {
     match word {
-        Word::WithNone(word) => read_bare(word, rest),
-        Word::WithOne(word) => read_one(word, rest),
-        Word::WithTwo(word) => read_two(word, rest),
-        Word::Lay => read_lay(rest),
-        Word::Stop => stop_event(alloc, rest),
-        Word::Step => step_event(rest),
+        ScriptWord::WithNone(word) => read_bare(word, rest),
+        ScriptWord::WithOne(word) => read_one(word, rest),
+        ScriptWord::WithTwo(word) => read_two(word, rest),
+        ScriptWord::Lay => read_lay(rest),
+        ScriptWord::Stop => stop_event(alloc, rest),
+        ScriptWord::Step => step_event(rest),
     }
 }
 
 /// What a line of a script outside of groups says: an event, or nothing.
 fn read_line(alloc: Global, line: &[u8]) -> Result<Option<Event<Pick>>, Code>
-    ensures { ReadsLine (fields line.now) result }
+    ensures { ReadsScriptLine (fields line.now) result }
 {
     match kind_of(line) {
-        Kind::Ignored => Ok(None),
-        Kind::Known(word, rest) => Ok(Some(read_event(alloc, word, rest)?)),
-        Kind::Unknown => Err(Code::BadLine),
+        ScriptLineKind::Ignored => Ok(None),
+        ScriptLineKind::Known(word, rest) => Ok(Some(read_event(alloc, word, rest)?)),
+        ScriptLineKind::Unknown => Err(Code::BadLine),
     }
 }
 
@@ -257,7 +259,7 @@ impl TakeLines for EventLines {
 /// The events at the end of a script. The script must not end within a group.
 fn events_at_end(ended: Ended<EventLines>) -> Result<Vec<Event<Pick>>, Fault>
     ensures reads_nothing { IfErr result (λ fault. fault.code ≢ Code.Read) }
-    ensures ends { (lines : List Row) → HasEvents lines ended.taker → ended.lines ≡ length lines → Ends script_text lines (map_ok (λ events. map as_line events.items) result) }
+    ensures ends { (lines : List Row) → HasEvents lines ended.taker → ended.lines ≡ length lines → EndsText script_text lines (map_ok (λ events. map as_line events.items) result) }
 {
     let Ended {
         taker,
@@ -284,7 +286,7 @@ fn events_at_end(ended: Ended<EventLines>) -> Result<Vec<Event<Pick>>, Fault>
 /// each line, and 32 bytes for each command between `begin` and `end`.
 pub fn read_script<S: Text>(alloc: Global, text: &mut S) -> Result<Vec<Event<Pick>>, Fault>
     ensures read { IfSome (S.bytes text.old)
-        (λ bytes. Reads script_text bytes (S.source text.new) (map_ok (λ events. map as_line events.items) result)) }
+        (λ bytes. ReadsText script_text bytes (S.source text.new) (map_ok (λ events. map as_line events.items) result)) }
     ensures counts { KeepsText CountsFailures S.Text result text.old text.new }
 {
     let ended = text.give_lines(alloc, EventLines::new(alloc))?;
@@ -293,7 +295,7 @@ pub fn read_script<S: Text>(alloc: Global, text: &mut S) -> Result<Vec<Event<Pic
 
 /// The events of a script in memory, as by `read_script`.
 pub fn parse_script(alloc: Global, bytes: &[u8]) -> Result<Vec<Event<Pick>>, Fault>
-    ensures { Reads script_text bytes.now InMemory (map_ok (λ events. map as_line events.items) result) }
+    ensures { ReadsText script_text bytes.now InMemory (map_ok (λ events. map as_line events.items) result) }
 {
     let mut text = bytes;
     read_script(alloc, &mut text)

@@ -1,7 +1,7 @@
 //! The words with which the lines of a script begin.
 ghost use Rattle.std.specs.Prelude.{◌≡◌};
 ghost use Rattle.scripts.specs.ScriptTexts.{as_line};
-ghost use Rattle.scripts.specs.ScriptReading.{word_from, bare_line, one_line, two_line, lay_line};
+ghost use Rattle.scripts.specs.ScriptReading.{script_word_from, bare_script_line, one_script_line, two_script_line, lay_line};
 
 use dimacs::{OneNumber, TwoNumbers, word_of_one, word_of_two};
 use disk::Pick;
@@ -11,7 +11,7 @@ use rows::Query;
 
 /// A word with no field after it.
 #[derive(Clone, Copy)]
-pub(crate) enum Bare {
+pub(crate) enum BareScriptWord {
     Flush,
     Checkpoint,
     Task,
@@ -20,8 +20,8 @@ pub(crate) enum Bare {
 
 /// A word by what follows it.
 #[derive(Clone, Copy)]
-pub(crate) enum Word {
-    WithNone(Bare),
+pub(crate) enum ScriptWord {
+    WithNone(BareScriptWord),
     WithOne(OneNumber),
     WithTwo(TwoNumbers),
     Lay,
@@ -30,54 +30,54 @@ pub(crate) enum Word {
 }
 
 /// The word that a field spells.
-pub(crate) fn word_of(field: &[u8]) -> Option<Word>
-    ensures { result ≡ word_from field.now }
+pub(crate) fn word_of(field: &[u8]) -> Option<ScriptWord>
+    ensures { result ≡ script_word_from field.now }
 {
     if field == b"flush".as_slice() {
-        return Some(Word::WithNone(Bare::Flush));
+        return Some(ScriptWord::WithNone(BareScriptWord::Flush));
     }
     if field == b"checkpoint".as_slice() {
-        return Some(Word::WithNone(Bare::Checkpoint));
+        return Some(ScriptWord::WithNone(BareScriptWord::Checkpoint));
     }
     if field == b"task".as_slice() {
-        return Some(Word::WithNone(Bare::Task));
+        return Some(ScriptWord::WithNone(BareScriptWord::Task));
     }
     if field == b"publish".as_slice() {
-        return Some(Word::WithNone(Bare::Publish));
+        return Some(ScriptWord::WithNone(BareScriptWord::Publish));
     }
     if let Some(word) = word_of_one(field) {
-        return Some(Word::WithOne(word));
+        return Some(ScriptWord::WithOne(word));
     }
     if let Some(word) = word_of_two(field) {
-        return Some(Word::WithTwo(word));
+        return Some(ScriptWord::WithTwo(word));
     }
     if field == b"lay".as_slice() {
-        return Some(Word::Lay);
+        return Some(ScriptWord::Lay);
     }
     if field == b"stop".as_slice() {
-        return Some(Word::Stop);
+        return Some(ScriptWord::Stop);
     }
     if field == b"step".as_slice() {
-        return Some(Word::Step);
+        return Some(ScriptWord::Step);
     }
     None
 }
 
 /// The event of a word alone.
-pub(crate) fn bare_event(word: Bare) -> Event<Pick>
-    ensures { as_line result ≡ bare_line word }
+pub(crate) fn bare_event(word: BareScriptWord) -> Event<Pick>
+    ensures { as_line result ≡ bare_script_line word }
 {
     match word {
-        Bare::Flush => Event::Flush,
-        Bare::Checkpoint => Event::Checkpoint,
-        Bare::Task => Event::Task,
-        Bare::Publish => Event::Publish,
+        BareScriptWord::Flush => Event::Flush,
+        BareScriptWord::Checkpoint => Event::Checkpoint,
+        BareScriptWord::Task => Event::Task,
+        BareScriptWord::Publish => Event::Publish,
     }
 }
 
 /// The event of a word with a number.
 pub(crate) fn one_event(word: OneNumber, number: u64) -> Event<Pick>
-    ensures { as_line result ≡ one_line word number }
+    ensures { as_line result ≡ one_script_line word number }
 {
     Event::Submit {
         group: Group::one(word.command(number)),
@@ -86,7 +86,7 @@ pub(crate) fn one_event(word: OneNumber, number: u64) -> Event<Pick>
 
 /// The event of a word with two numbers.
 pub(crate) fn two_event(word: TwoNumbers, first: u64, second: u64) -> Event<Pick>
-    ensures { as_line result ≡ two_line word first second }
+    ensures { as_line result ≡ two_script_line word first second }
 {
     match word {
         TwoNumbers::Set => Event::Submit {

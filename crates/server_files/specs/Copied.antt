@@ -16,10 +16,10 @@ pub record IsCopyOf (net : Net) (version journal_pages : ℕ) (content : List �
   pub only : Only content left
 
 -- why there is no file for a copy: its name cannot be made durable, memory ran out, or else it cannot be opened or made
-abbrev pub refusal_of : OpenError → Refusal
-refusal_of (NameNotSynced cause) = Device
-refusal_of OutOfMemory = out_of_memory
-refusal_of error = Read
+abbrev pub copy_refusal_of : OpenError → Refusal
+copy_refusal_of (NameNotSynced cause) = Device
+copy_refusal_of OutOfMemory = out_of_memory
+copy_refusal_of error = Read
 
 -- Commands are carried out, and copies are made where there is a folder for them. Of the file that a name has there nothing can be said.
 abbrev pub copies_in : {F : Type 0} → Option F → Copying

@@ -3,5 +3,5 @@ use Rattle.server_files.specs.declared.deeds.Deed.{Deed}
 use Rattle.server_files.specs.declared.deeds.Deeds.{Deeds}
 
 -- the same after one more deed
-abbrev pub noted : Deed → Deeds → Deeds
-noted deed deeds = record { last = deed; before = deeds.last; earlier = deeds.before }
+abbrev pub with_deed : Deed → Deeds → Deeds
+with_deed deed deeds = record { last = deed; before = deeds.last; earlier = deeds.before }

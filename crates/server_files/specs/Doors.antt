@@ -9,7 +9,7 @@ use Rattle.server_files.specs.declared.deeds.Side.TheVariants.{Input, Output}
 use Rattle.server_files.specs.declared.deeds.Deed.{Deed}
 use Rattle.server_files.specs.declared.deeds.Deed.TheVariants.{Nothing, Open, Close, Tell, Rest}
 use Rattle.server_files.specs.declared.deeds.Deeds.{Deeds}
-use Rattle.server_files.specs.Deeds.{noted}
+use Rattle.server_files.specs.Deeds.{with_deed}
 use Rattle.server_files.specs.declared.pipes.Why.{Why}
 use Rattle.server_files.specs.declared.pipes.Why.TheVariants.{NoMemory}
 use Rattle.server_files.specs.declared.doors.PipeDoor.{PipeDoor}
@@ -56,16 +56,16 @@ HasOpened deeds = (deeds.last ≡ Open Output) × (deeds.before ≡ Open Input)
 
 -- a client comes in: first the pipe for reading is opened
 abbrev pub came_in : Deeds → Deeds
-came_in deeds = noted (Open Output) (noted (Open Input) deeds)
+came_in deeds = with_deed (Open Output) (with_deed (Open Input) deeds)
 
 -- a client leaves: first the pipe for reading is closed
 abbrev pub let_out : Deeds → Deeds
-let_out deeds = noted (Close Output) (noted (Close Input) deeds)
+let_out deeds = with_deed (Close Output) (with_deed (Close Input) deeds)
 
 -- no client could come in, because of this pipe: that is reported, and then the pair rests for lack of memory, and any other reason is reported
 abbrev pub left_out : Side → Why → Deeds → Deeds
-left_out side NoMemory deeds = noted Rest (noted (Tell side) deeds)
-left_out side why deeds = noted (Tell side) (noted (Tell side) deeds)
+left_out side NoMemory deeds = with_deed Rest (with_deed (Tell side) deeds)
+left_out side why deeds = with_deed (Tell side) (with_deed (Tell side) deeds)
 
 -- a report about a pipe
 abbrev pub IsReport : Deed → Type 0
@@ -83,8 +83,8 @@ is_waited_for why = false
 
 -- what is reported of the end of a session: a failed read, or a failed write unless the client had left
 abbrev pub told_of_end : {T : Type 0} → Result T Failed → Bool → Deeds → Deeds
-told_of_end (Err (Code Read)) has_reader deeds = noted (Tell Input) deeds
-told_of_end (Err (Code Write)) true deeds = noted (Tell Output) deeds
+told_of_end (Err (Code Read)) has_reader deeds = with_deed (Tell Input) deeds
+told_of_end (Err (Code Write)) true deeds = with_deed (Tell Output) deeds
 told_of_end outcome has_reader deeds = deeds
 
 -- the failure is that of the first name which was told to be none of a pipe

@@ -1,8 +1,8 @@
 //! Copies of the served network, as stores in files of a folder.
 ghost use Rattle.std.specs.Prelude.{◌≡◌, ◌↔◌, IfOk, IfErr, OnOk, option_map, string_bytes};
 ghost use Rattle.session_lines.specs.Copying.{IsUnmade};
-ghost use Rattle.server_files.specs.Copied.{IsCopyOf, copies_in, refusal_of};
-ghost use Rattle.file_jobs.specs.Failures.{IsUnopened};
+ghost use Rattle.server_files.specs.Copied.{IsCopyOf, copies_in, copy_refusal_of};
+ghost use Rattle.file_jobs.specs.Failures.{IsFileUnopened};
 ghost use Rattle.words.specs.Words.{IsJournal};
 
 use disk::Disk;
@@ -46,7 +46,7 @@ pub fn copy_store<D: Disk>(
 
 /// Why there is no file for a copy: it cannot be opened or made (10), its name cannot be made durable (43), or memory ran out (11).
 fn refusal_of(error: OpenError) -> Refusal
-    ensures cause { result ≡ refusal_of error }
+    ensures cause { result ≡ copy_refusal_of error }
     ensures unmade { IsUnmade result }
 {
     match error {
@@ -136,7 +136,7 @@ pub fn see_folder<R: AllocGlobal + Files<File = File>>(
     folder: Option<&str>,
 ) -> Result<Option<String>, Failed>
     ensures named { IfOk result (λ seen. option_map string_bytes seen ≡ option_map (λ name. name.now) folder.entry) }
-    ensures refused { IfErr result (IsUnopened 1) }
+    ensures refused { IfErr result (IsFileUnopened 1) }
 {
     let Some(folder) = folder else {
         return Ok(None);

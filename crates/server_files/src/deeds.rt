@@ -1,6 +1,6 @@
 //! What a door did last with the pipes of its pair, for clauses.
 ghost use Rattle.std.specs.Prelude.{◌≡◌};
-ghost use Rattle.server_files.specs.Deeds.{noted};
+ghost use Rattle.server_files.specs.Deeds.{with_deed};
 
 /// A pipe of a pair: the one for reading, or the one for writing.
 #[derive(Clone, Copy)]
@@ -35,7 +35,7 @@ pub struct Deeds {
 impl Deeds {
     /// The same after one more deed.
     pub fn then(self, deed: Deed) -> Deeds
-        ensures { result ≡ noted deed self }
+        ensures { result ≡ with_deed deed self }
     {
         Deeds {
             last: deed,

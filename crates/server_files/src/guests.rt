@@ -6,12 +6,12 @@ use std::sync::{Arc, Mutex, Wait};
 
 /// How many clients came in through the doors of a server, and how many of them left.
 #[derive(Clone, Copy, Debug, PartialEq, Eq)]
-pub struct Visits {
+pub struct VisitCounts {
     pub came: u64,
     pub went: u64,
 }
 
-impl Visits {
+impl VisitCounts {
     /// One more has come.
     fn one_came(&mut self)
         ensures came { self.old.came < 18446744073709551615 → self.new.came ≡ self.old.came + 1 }
@@ -32,7 +32,7 @@ impl Visits {
 /// The clients of a server, counted if their number is reported.
 #[derive(Drop)]
 pub struct Guests {
-    pub counted: Option<Arc<Mutex<Visits>>>,
+    pub counted: Option<Arc<Mutex<VisitCounts>>>,
 }
 
 impl Guests {
@@ -41,7 +41,7 @@ impl Guests {
         if !are_told {
             return Ok(Guests { counted: None });
         }
-        let none = Visits { came: 0, went: 0 };
+        let none = VisitCounts { came: 0, went: 0 };
         let visits = Arc::new(alloc, Mutex::new(none))?;
         Ok(Guests {
             counted: Some(visits),

@@ -10,5 +10,5 @@ mod pipes;
 pub use copies::{FileCopies, copy_store, see_folder};
 pub use deeds::{Deed, Deeds, Side};
 pub use doors::{AnswerPipe, Doors, FileNames, PipeDoor, SeenPipes, doors_of, see_pipes};
-pub use guests::{Guests, Visits};
+pub use guests::{Guests, VisitCounts};
 pub use pipes::{Pipes, TellsPipe, Unserved, Why};

@@ -1,7 +1,7 @@
 //! The pipes of a pair, and what a door does with them. No clause sees the system: whether each method here does what it notes has to be read here, and only
 //! here.
 ghost use Rattle.std.specs.Prelude.{◌≡◌, Bool, true, false, Ok, IfOk, IfErr, ⊤};
-ghost use Rattle.server_files.specs.Deeds.{noted};
+ghost use Rattle.server_files.specs.Deeds.{with_deed};
 ghost use Rattle.server_files.specs.Doors.{pipe_name_of, none_done, HaveSameNames};
 
 use crate::deeds::{Deed, Deeds, Side};
@@ -152,7 +152,7 @@ impl<T> Pipes<T> {
 
     /// Closes a pipe.
     pub fn close<F: Drop>(&mut self, side: Side, opened: F)
-        ensures deeds { self.new.deeds ≡ noted (Deed.Close side) self.old.deeds }
+        ensures deeds { self.new.deeds ≡ with_deed (Deed.Close side) self.old.deeds }
         ensures names { HaveSameNames self.old self.new }
     {
         self.deeds = self.deeds.then(Deed::Close(side));
@@ -163,7 +163,7 @@ impl<T> Pipes<T> {
 impl<T: Files<File = File>> Pipes<T> {
     /// Opens a pipe for reading or for writing, as it is one of the pair. It waits until a client has opened it too. This makes and writes nothing.
     pub fn open(&mut self, side: Side) -> Result<File, Unserved>
-        ensures deeds { self.new.deeds ≡ noted (Deed.Open side) self.old.deeds }
+        ensures deeds { self.new.deeds ≡ with_deed (Deed.Open side) self.old.deeds }
         ensures names { HaveSameNames self.old self.new }
         ensures side { IfErr result (λ unserved. unserved.side ≡ side) }
     {
@@ -181,7 +181,7 @@ impl<T: Files<File = File>> Pipes<T> {
 impl<T: Eprint> Pipes<T> {
     /// Reports this about a pipe, as `tell`.
     pub fn tell<D: Display>(&mut self, side: Side, what: &D)
-        ensures deeds { self.new.deeds ≡ noted (Deed.Tell side) self.old.deeds }
+        ensures deeds { self.new.deeds ≡ with_deed (Deed.Tell side) self.old.deeds }
         ensures names { HaveSameNames self.old self.new }
     {
         self.deeds = self.deeds.then(Deed::Tell(side));
@@ -192,7 +192,7 @@ impl<T: Eprint> Pipes<T> {
 impl<T: Clock> Pipes<T> {
     /// Waits for a while.
     pub fn rest(&mut self)
-        ensures deeds { self.new.deeds ≡ noted Deed.Rest self.old.deeds }
+        ensures deeds { self.new.deeds ≡ with_deed Deed.Rest self.old.deeds }
         ensures names { HaveSameNames self.old self.new }
     {
         self.deeds = self.deeds.then(Deed::Rest);

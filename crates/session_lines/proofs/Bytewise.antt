@@ -12,7 +12,7 @@ use Rattle.session_lines.specs.declared.lines.LineSoFar.{LineSoFar}
 use Rattle.session_lines.specs.declared.reading.LastLine.{LastLine}
 use Rattle.session_lines.specs.declared.reading.LastLine.TheVariants.{Taken, Dropped}
 use Rattle.session_lines.specs.Judging.{IsSoFar}
-use Rattle.session_lines.specs.Reads.{HasNoLine, ReadsOne, ReadsLine}
+use Rattle.session_lines.specs.Reads.{HasNoLine, ReadsOne, ReadsSessionLine}
 use Rattle.session_lines.specs.SessionLines.{IsLine}
 
 -- these bytes of the first line were taken
@@ -65,7 +65,7 @@ ended_by_feed last_line text (Some xs) (Some ys) front line p in_line q is = rec
 }
 
 pub far_fed : (last_line : LastLine) (known left rest : Option (List ℕ)) (old : LineSoFar) (is_empty : Bool) (b : ℕ) (line : Line) → FarRead known left old is_empty → b ≡ 10 → Consumes left rest (b ∷ [])
-    → ((front : List ℕ) → IsSoFar front old → IsLine (fields (strip_last 13 front)) line) → IfSome known (λ text. ReadsLine last_line text rest (Ok (Some line)))
+    → ((front : List ℕ) → IsSoFar front old → IsLine (fields (strip_last 13 front)) line) → IfSome known (λ text. ReadsSessionLine last_line text rest (Ok (Some line)))
 far_fed last_line None left rest old is_empty b line far feed took reads = tt
 far_fed last_line (Some text) left rest old is_empty b line far feed took reads =
     ended_by_feed last_line text left rest far.front line far.read far.in_line (rw feed at took) (reads far.front far.so_far)
@@ -83,7 +83,7 @@ ended_by_text last_line text (Some xs) (Some ys) front line p in_line some taken
 }
 
 pub far_ended : (last_line : LastLine) (known left rest : Option (List ℕ)) (old : LineSoFar) (is_empty : Bool) (line : Line) → FarRead known left old is_empty → is_empty ≡ false → last_line ≡ Taken → IsAtEnd left × Keeps left rest
-    → ((front : List ℕ) → IsSoFar front old → IsLine (fields (strip_last 13 front)) line) → IfSome known (λ text. ReadsLine last_line text rest (Ok (Some line)))
+    → ((front : List ℕ) → IsSoFar front old → IsLine (fields (strip_last 13 front)) line) → IfSome known (λ text. ReadsSessionLine last_line text rest (Ok (Some line)))
 far_ended last_line None left rest old is_empty line far some taken ends reads = tt
 far_ended last_line (Some text) left rest old is_empty line far some taken ends reads =
     ended_by_text last_line text left rest far.front line far.read far.in_line (far.some some) taken ends.0 ends.1 (reads far.front far.so_far)
@@ -102,7 +102,7 @@ no_text last_line text (Some xs) (Some ys) front is_empty p in_line empty why no
     (no_line last_line text front is_empty (p ∙ ap (λ (l : List ℕ). front ++ l) none ∙ append-nil front) in_line empty why, ap Some (kept ∙ none))
 
 pub far_none : (last_line : LastLine) (known left rest : Option (List ℕ)) (old : LineSoFar) (is_empty : Bool) → FarRead known left old is_empty → (is_empty ≡ true) ⊎ (last_line ≡ Dropped) → IsAtEnd left × Keeps left rest
-    → IfSome known (λ text. ReadsLine last_line text rest (Ok None))
+    → IfSome known (λ text. ReadsSessionLine last_line text rest (Ok None))
 far_none last_line None left rest old is_empty far why ends = tt
 far_none last_line (Some text) left rest old is_empty far why ends = no_text last_line text left rest far.front is_empty far.read far.in_line far.empty why ends.0 ends.1
 
@@ -112,6 +112,6 @@ consumes_kept text (Some xs) None front p kept = absurd kept
 consumes_kept text (Some xs) (Some ys) front p kept = p ∙ ap (λ (l : List ℕ). front ++ l) (sym kept)
 
 pub far_failed : (last_line : LastLine) (known left rest : Option (List ℕ)) (old : LineSoFar) (is_empty : Bool) (code : Code) → FarRead known left old is_empty → Keeps left rest
-    → IfSome known (λ text. ReadsLine last_line text rest (Err code))
+    → IfSome known (λ text. ReadsSessionLine last_line text rest (Err code))
 far_failed last_line None left rest old is_empty code far kept = tt
 far_failed last_line (Some text) left rest old is_empty code far kept = record { front = far.front; in_line = far.in_line; read = consumes_kept text left rest far.front far.read kept }

@@ -19,13 +19,13 @@ use Rattle.session_lines.specs.declared.words.One.{One as OneWord}
 use Rattle.session_lines.specs.declared.words.One.TheVariants.{Common as one_common, Arc, Until}
 use Rattle.session_lines.specs.declared.words.Two.{Two as TwoWord}
 use Rattle.session_lines.specs.declared.words.Two.TheVariants.{Common as two_common, Arcs, Reach, Reached, Nearest, Route}
-use Rattle.session_lines.specs.declared.words.Word.TheVariants.{WithOne, WithTwo, Lay}
+use Rattle.session_lines.specs.declared.words.SessionWord.TheVariants.{WithOne, WithTwo, Lay}
 use Rattle.session_lines.specs.declared.fields.Numbers.TheVariants.{One, Two, Three}
 use Rattle.session_lines.specs.declared.lines.Line.TheVariants.{Refused}
 use Rattle.session_lines.specs.Fields.{IsNumbers}
 use Rattle.session_lines.specs.Names.{copy_of}
 use Rattle.session_lines.specs.SessionLines.{IsLine, grouped_forms, grouped_code, session_code}
-use Rattle.session_lines.specs.Spelled.{spelling}
+use Rattle.session_lines.specs.Spelled.{session_spelling}
 use Rattle.session_lines.specs.Words.{one_out_of_range, two_out_of_range}
 use Rattle.session_lines.proofs.Worded.{IsForm, bare_form, one_form, two_form, lay_form, kept_as, one_code, two_code, lay_code, both_refused, all_refused}
 
@@ -119,7 +119,7 @@ three_within word u v w a b d plain formed e g h bad =
     let code : grouped_code (word ∷ u ∷ v ∷ w ∷ []) ≡ cond (is_refused a || (is_refused b || is_refused d)) (Some NumberRange) None = rw (plain, formed, e, g, h) (simp or-false) in
     code ∙ rw bad refl
 
-one_grouped : (word : OneWord) (u : List ℕ) (a : Numeral) → numeral u ≡ Some a → is_refused a ≡ true → grouped_code (spelling (WithOne word) ∷ u ∷ []) ≡ Some (one_out_of_range word)
+one_grouped : (word : OneWord) (u : List ℕ) (a : Numeral) → numeral u ≡ Some a → is_refused a ≡ true → grouped_code (session_spelling (WithOne word) ∷ u ∷ []) ≡ Some (one_out_of_range word)
 one_grouped (one_common Close) u a e bad = one_within (codes "close") u a refl refl e bad
 one_grouped (one_common Reopen) u a e bad = one_within (codes "reopen") u a refl refl e bad
 one_grouped (one_common Mark) u a e bad = one_within (codes "mark") u a refl refl e bad
@@ -128,7 +128,7 @@ one_grouped Arc u a e bad = other_within (codes "arc") (u ∷ []) refl refl
 one_grouped Until u a e bad = other_within (codes "until") (u ∷ []) refl refl
 
 two_grouped : (word : TwoWord) (u v : List ℕ) (a b : Numeral) → numeral u ≡ Some a → numeral v ≡ Some b → (is_refused a || is_refused b) ≡ true
-    → grouped_code (spelling (WithTwo word) ∷ u ∷ v ∷ []) ≡ Some (two_out_of_range word)
+    → grouped_code (session_spelling (WithTwo word) ∷ u ∷ v ∷ []) ≡ Some (two_out_of_range word)
 two_grouped (two_common Set) u v a b d e bad = two_within (codes "set") u v a b refl refl d e bad
 two_grouped (two_common Dist) u v a b d e bad = other_within (codes "dist") (u ∷ v ∷ []) refl refl
 two_grouped (two_common From) u v a b d e bad = other_within (codes "from") (u ∷ v ∷ []) refl refl
@@ -139,22 +139,22 @@ two_grouped Reached u v a b d e bad = other_within (codes "reached") (u ∷ v �
 two_grouped Nearest u v a b d e bad = other_within (codes "nearest") (u ∷ v ∷ []) refl refl
 two_grouped Route u v a b d e bad = other_within (codes "route") (u ∷ v ∷ []) refl refl
 
-pub one_range : (word : OneWord) (row : Row) (n : Numeral) → IsNumbers row (One (Some n)) → is_refused n ≡ true → IsLine (spelling (WithOne word) ∷ row) (Refused NumberRange (one_out_of_range word))
+pub one_range : (word : OneWord) (row : Row) (n : Numeral) → IsNumbers row (One (Some n)) → is_refused n ≡ true → IsLine (session_spelling (WithOne word) ∷ row) (Refused NumberRange (one_out_of_range word))
 one_range word row n are bad =
     let k = kept_as are.field n are.number in
     let still : is_refused k.a ≡ true = sym (kept_refused k.a) ∙ sym (ap is_refused k.kept_as) ∙ bad in
     (one_code word row n are bad, rw are.row_is (one_grouped word are.field k.a k.is still))
 
 pub two_range : (word : TwoWord) (row : Row) (n m : Numeral) → IsNumbers row (Two (Some n) (Some m)) → (is_refused n || is_refused m) ≡ true
-    → IsLine (spelling (WithTwo word) ∷ row) (Refused NumberRange (two_out_of_range word))
+    → IsLine (session_spelling (WithTwo word) ∷ row) (Refused NumberRange (two_out_of_range word))
 two_range word row n m are bad =
     let j = kept_as are.first n are.first_number in
     let k = kept_as are.second m are.second_number in
     (two_code word row n m are bad, rw are.row_is (two_grouped word are.first are.second j.a k.a j.is k.is (both_refused j.a k.a n m j.kept_as k.kept_as ∙ bad)))
 
-pub lay_range : (row : Row) (n m k : Numeral) → IsNumbers row (Three (Some n) (Some m) (Some k)) → (is_refused n || (is_refused m || is_refused k)) ≡ true → IsLine (spelling Lay ∷ row) (Refused NumberRange NumberRange)
+pub lay_range : (row : Row) (n m k : Numeral) → IsNumbers row (Three (Some n) (Some m) (Some k)) → (is_refused n || (is_refused m || is_refused k)) ≡ true → IsLine (session_spelling Lay ∷ row) (Refused NumberRange NumberRange)
 lay_range row n m k are bad =
     let h = kept_as are.first n are.first_number in
     let i = kept_as are.second m are.second_number in
     let j = kept_as are.third k are.third_number in
-    (lay_code row n m k are bad, rw are.row_is (three_within (spelling Lay) are.first are.second are.third h.a i.a j.a refl refl h.is i.is j.is (all_refused h.a i.a j.a n m k h.kept_as i.kept_as j.kept_as ∙ bad)))
+    (lay_code row n m k are bad, rw are.row_is (three_within (session_spelling Lay) are.first are.second are.third h.a i.a j.a refl refl h.is i.is j.is (all_refused h.a i.a j.a n m k h.kept_as i.kept_as j.kept_as ∙ bad)))

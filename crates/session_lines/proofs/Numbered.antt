@@ -16,7 +16,7 @@ use Rattle.session_lines.specs.declared.fields.Field.{Field}
 use Rattle.session_lines.specs.declared.fields.Field.TheVariants.{Minus, Number, Other}
 use Rattle.session_lines.specs.declared.fields.Numbers.{Numbers}
 use Rattle.session_lines.specs.declared.fields.Numbers.TheVariants.{One, Two, Three, TooMany}
-use Rattle.session_lines.specs.Fields.{HasDigits, IsField, IsNumber, IsNumbers, as_row, number_of, signed_field}
+use Rattle.session_lines.specs.Fields.{HasDigits, IsField, IsNumber, IsNumbers, as_row, field_number_of, signed_field}
 
 decimal_value : (c : ℕ) → 48 ≤ c → c ≤ 57 → digit_value c ≡ c - 48
 decimal_value c low high =
@@ -118,7 +118,7 @@ starts_plain : (digits : List ℕ) → 0 < length digits → list_all is_decimal
 starts_plain [] some all = absurd (omega (arith, some))
 starts_plain (d ∷ ds) some all = no_minus d ds (digit_no_minus d (and_first (is_decimal d) (list_all is_decimal ds) all))
 
-read_as : (has_minus : Bool) (digits : List ℕ) (size : ℕ) → 0 < length digits → HasDigits digits size → number_of (signed_field has_minus digits) ≡ Some (record { has_minus = has_minus; size = size })
+read_as : (has_minus : Bool) (digits : List ℕ) (size : ℕ) → 0 < length digits → HasDigits digits size → field_number_of (signed_field has_minus digits) ≡ Some (record { has_minus = has_minus; size = size })
 read_as true digits size some has =
     let are : are_digits digits ≡ true = rw (lt-ltb 0 (length digits) some, has.0) refl in
     rw (are, has.1) refl
@@ -126,20 +126,20 @@ read_as false digits size some has =
     let are : are_digits digits ≡ true = rw (lt-ltb 0 (length digits) some, has.0) refl in
     rw (starts_plain digits some has.0, are, has.1) refl
 
-pub number_is : (field : List ℕ) (n : Numeral) → IsNumber field n → Some n ≡ number_of field
+pub number_is : (field : List ℕ) (n : Numeral) → IsNumber field n → Some n ≡ field_number_of field
 number_is field n is = rw is.signed (sym (read_as n.has_minus is.digits n.size is.some is.kept_as))
 
-pub no_number : (field : List ℕ) → IsField field Other → None ≡ number_of field
+pub no_number : (field : List ℕ) → IsField field Other → None ≡ field_number_of field
 no_number field is = let none : numeral field ≡ None = rw (append-nil field) at (is.1 []) in rw none refl
 
 -- ---- one more field
-pub one_more : (row : Row) (field : List ℕ) (a : Option Numeral) → row ≡ [] → a ≡ number_of field → IsNumbers (row ++ field ∷ []) (One a)
+pub one_more : (row : Row) (field : List ℕ) (a : Option Numeral) → row ≡ [] → a ≡ field_number_of field → IsNumbers (row ++ field ∷ []) (One a)
 one_more row field a none is = record { field = field; row_is = rw none refl; number = is }
 
-pub two_now : (row : Row) (field : List ℕ) (a b : Option Numeral) → IsNumbers row (One a) → b ≡ number_of field → IsNumbers (row ++ field ∷ []) (Two a b)
+pub two_now : (row : Row) (field : List ℕ) (a b : Option Numeral) → IsNumbers row (One a) → b ≡ field_number_of field → IsNumbers (row ++ field ∷ []) (Two a b)
 two_now row field a b one is = record { first = one.field; second = field; row_is = rw one.row_is refl; first_number = one.number; second_number = is }
 
-pub three_now : (row : Row) (field : List ℕ) (a b c : Option Numeral) → IsNumbers row (Two a b) → c ≡ number_of field → IsNumbers (row ++ field ∷ []) (Three a b c)
+pub three_now : (row : Row) (field : List ℕ) (a b c : Option Numeral) → IsNumbers row (Two a b) → c ≡ field_number_of field → IsNumbers (row ++ field ∷ []) (Three a b c)
 three_now row field a b c two is = record { first = two.first; second = two.second; third = field; row_is = rw two.row_is refl; first_number = two.first_number; second_number = two.second_number; third_number = is }
 
 pub too_many : (row : Row) (field : List ℕ) → 2 < length row → IsNumbers (row ++ field ∷ []) TooMany
@@ -157,19 +157,19 @@ as_one (b ∷ bs) some = refl
 
 -- a field that ends is one more
 module _ (row : Row) (last : List ℕ) (old new : Numbers) (numbers : IsNumbers row old) where
-  one_ended : (a : Option Numeral) → 0 < length last → a ≡ number_of last
-      → ((r : Row) (f : List ℕ) → IsNumbers r old → a ≡ number_of f → IsNumbers (r ++ f ∷ []) new) → IsNumbers (row ++ as_row last) new
+  one_ended : (a : Option Numeral) → 0 < length last → a ≡ field_number_of last
+      → ((r : Row) (f : List ℕ) → IsNumbers r old → a ≡ field_number_of f → IsNumbers (r ++ f ∷ []) new) → IsNumbers (row ++ as_row last) new
   one_ended a some is and = rw (as_one last some) (and row last numbers is)
 
-  pub minus_ended : IsField last Minus → ((r : Row) (f : List ℕ) → IsNumbers r old → None ≡ number_of f → IsNumbers (r ++ f ∷ []) new) → IsNumbers (row ++ as_row last) new
+  pub minus_ended : IsField last Minus → ((r : Row) (f : List ℕ) → IsNumbers r old → None ≡ field_number_of f → IsNumbers (r ++ f ∷ []) new) → IsNumbers (row ++ as_row last) new
   minus_ended is and = one_ended None (rw is (omega arith)) (rw is refl) and
 
-  pub number_ended : (n : Numeral) → IsField last (Number n) → ((r : Row) (f : List ℕ) → IsNumbers r old → Some n ≡ number_of f → IsNumbers (r ++ f ∷ []) new) → IsNumbers (row ++ as_row last) new
+  pub number_ended : (n : Numeral) → IsField last (Number n) → ((r : Row) (f : List ℕ) → IsNumbers r old → Some n ≡ field_number_of f → IsNumbers (r ++ f ∷ []) new) → IsNumbers (row ++ as_row last) new
   number_ended n is and = one_ended (Some n) (signed_length n.has_minus is.digits is.some is.signed) (number_is last n is) and
     where
       signed_length : (has_minus : Bool) (digits : List ℕ) → 0 < length digits → last ≡ signed_field has_minus digits → 0 < length last
       signed_length true digits some e = rw e (omega arith)
       signed_length false digits some e = rw e some
 
-  pub other_ended : IsField last Other → ((r : Row) (f : List ℕ) → IsNumbers r old → None ≡ number_of f → IsNumbers (r ++ f ∷ []) new) → IsNumbers (row ++ as_row last) new
+  pub other_ended : IsField last Other → ((r : Row) (f : List ℕ) → IsNumbers r old → None ≡ field_number_of f → IsNumbers (r ++ f ∷ []) new) → IsNumbers (row ++ as_row last) new
   other_ended is and = one_ended None is.0 (no_number last is) and

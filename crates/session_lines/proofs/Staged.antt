@@ -16,11 +16,11 @@ use Rattle.session_lines.specs.declared.lines.Line.TheVariants.{Ignored}
 use Rattle.session_lines.specs.declared.lines.LineSoFar.{LineSoFar}
 use Rattle.session_lines.specs.declared.lines.Stage.{Stage}
 use Rattle.session_lines.specs.declared.lines.Stage.TheVariants.{Blank, Beginning, Remark, Unknown, Behind}
-use Rattle.session_lines.specs.declared.words.Word.{Word}
+use Rattle.session_lines.specs.declared.words.SessionWord.{SessionWord}
 use Rattle.session_lines.specs.Fields.{IsField, IsNumbers, as_row}
 use Rattle.session_lines.specs.Judging.{IsOneField, IsSoFar, IsStage, letters_of}
 use Rattle.session_lines.specs.SessionLines.{session_code, IsLine}
-use Rattle.session_lines.specs.Spelled.{spelling, words, word_from}
+use Rattle.session_lines.specs.Spelled.{session_spelling, session_words, session_word_from}
 use Rattle.session_lines.proofs.Fieldwise.{blank_first, ended_by_blank, ended_by_line, one_byte, one_more, first_field, remark_first, without_return, no_return}
 use Rattle.std.specs.Str.{bytes_eq}
 use lib.Chars.{codes}
@@ -87,11 +87,11 @@ first_whole front b letters more blank is =
     ∙ ap (λ (l : Row). l ++ fields more) (some_letters (letters_of letters) is.first is.others is.letters_are)
     )
 
-pub unknown_ended : (front : List ℕ) (b : ℕ) (letters : Letters) → is_blank b ≡ true → None ≡ word_from (letters_of letters) → bytes_eq (letters_of letters) (codes "copy") ≡ false
+pub unknown_ended : (front : List ℕ) (b : ℕ) (letters : Letters) → is_blank b ≡ true → None ≡ session_word_from (letters_of letters) → bytes_eq (letters_of letters) (codes "copy") ≡ false
     → bytes_eq (letters_of letters) (codes "table") ≡ false → IsStage front (Beginning letters) → IsStage (front ++ b ∷ []) Unknown
 unknown_ended front b letters blank none other no_table is more =
     let row : fields ((front ++ b ∷ []) ++ more) ≡ (is.first ∷ is.others) ∷ fields more = first_whole front b letters more blank is ∙ ap (λ (l : List ℕ). l ∷ fields more) is.letters_are in
-    let no : word_from (is.first ∷ is.others) ≡ None = sym (ap word_from is.letters_are) ∙ sym none in
+    let no : session_word_from (is.first ∷ is.others) ≡ None = sym (ap session_word_from is.letters_are) ∙ sym none in
     let no_copy : copy_of ((is.first ∷ is.others) ∷ fields more) ≡ None = not_copy (is.first ∷ is.others) (fields more) (sym (ap (λ (l : List ℕ). bytes_eq l (codes "copy")) is.letters_are) ∙ other) in
     let none_of_table : bytes_eq (is.first ∷ is.others) (codes "table") ≡ false = sym (ap (λ (l : List ℕ). bytes_eq l (codes "table")) is.letters_are) ∙ no_table in
     ap session_code row ∙ unknown_row is.first is.others (fields more) is.no_remark no no_copy none_of_table
@@ -99,7 +99,7 @@ unknown_ended front b letters blank none other no_table is more =
 pub no_bytes : IsOneField []
 no_bytes k d l = absurd (omega (arith, l))
 
-pub word_ended : (front : List ℕ) (b : ℕ) (letters : Letters) (word : Word) → is_blank b ≡ true → Some word ≡ word_from (letters_of letters) → IsStage front (Beginning letters)
+pub word_ended : (front : List ℕ) (b : ℕ) (letters : Letters) (word : SessionWord) → is_blank b ≡ true → Some word ≡ session_word_from (letters_of letters) → IsStage front (Beginning letters)
     → IsStage (front ++ b ∷ []) (Behind word Nothing Unbegun)
 word_ended front b letters word blank is_word is = record {
   whole = [];
@@ -107,11 +107,11 @@ word_ended front b letters word blank is_word is = record {
   numbers_are = refl;
   field_is = refl;
   no_blank = no_bytes;
-  goes_on = λ more. first_whole front b letters more blank is ∙ ap (λ (l : List ℕ). l ∷ fields more) (spelled spelling words (letters_of letters) word (sym is_word));
+  goes_on = λ more. first_whole front b letters more blank is ∙ ap (λ (l : List ℕ). l ∷ fields more) (spelled session_spelling session_words (letters_of letters) word (sym is_word));
 }
 
 -- ---- behind the word
-pub field_ended : (front : List ℕ) (b : ℕ) (word : Word) (old new : Numbers) (field : Field) → is_blank b ≡ true
+pub field_ended : (front : List ℕ) (b : ℕ) (word : SessionWord) (old new : Numbers) (field : Field) → is_blank b ≡ true
     → ((row : Row) (last : List ℕ) → IsNumbers row old → IsField last field → IsNumbers (row ++ as_row last) new)
     → IsStage front (Behind word old field) → IsStage (front ++ b ∷ []) (Behind word new Unbegun)
 field_ended front b word old new field blank ended is = record {
@@ -123,12 +123,12 @@ field_ended front b word old new field blank ended is = record {
   goes_on = λ more.
       rw (append_assoc front (b ∷ []) more) (
       is.goes_on (b ∷ more)
-      ∙ ap (λ (l : Row). spelling word ∷ (is.whole ++ l)) (ended_by_blank is.last b more is.no_blank blank)
-      ∙ ap (λ (l : Row). spelling word ∷ l) (sym (append_assoc is.whole (as_row is.last) (fields more)))
+      ∙ ap (λ (l : Row). session_spelling word ∷ (is.whole ++ l)) (ended_by_blank is.last b more is.no_blank blank)
+      ∙ ap (λ (l : Row). session_spelling word ∷ l) (sym (append_assoc is.whole (as_row is.last) (fields more)))
       );
 }
 
-pub field_goes_on : (front : List ℕ) (b : ℕ) (word : Word) (numbers : Numbers) (old new : Field) → is_blank b ≡ false
+pub field_goes_on : (front : List ℕ) (b : ℕ) (word : SessionWord) (numbers : Numbers) (old new : Field) → is_blank b ≡ false
     → ((field : List ℕ) → IsField field old → IsField (field ++ b ∷ []) new)
     → IsStage front (Behind word numbers old) → IsStage (front ++ b ∷ []) (Behind word numbers new)
 field_goes_on front b word numbers old new plain with_byte is = record {
@@ -159,29 +159,29 @@ first_alone front letters is =
     ap fields (sym (append-nil front)) ∙ is.goes_on [] ∙ ended_by_line (letters_of letters) is.no_blank ∙ some_letters (letters_of letters) is.first is.others is.letters_are
 
 -- a field alone that is no word: `table` has numbers behind it
-no_line : (first : ℕ) (w : List ℕ) → first ≢ 35 → word_from (first ∷ w) ≡ None → session_code ((first ∷ w) ∷ []) ≡ Some BadLine
+no_line : (first : ℕ) (w : List ℕ) → first ≢ 35 → session_word_from (first ∷ w) ≡ None → session_code ((first ∷ w) ∷ []) ≡ Some BadLine
 no_line first w plain none =
     elim (cases_Bool (bytes_eq (first ∷ w) (codes "table"))) [
       | inl spelled ↦ rw (copy_alone (first ∷ w), spelled) refl
       | inr other ↦ unknown_row first w [] plain none (copy_alone (first ∷ w)) other
     ]
 
-pub unknown_alone : (front : List ℕ) (letters : Letters) → None ≡ word_from (letters_of letters) → IsStage front (Beginning letters) → session_code (fields front) ≡ Some BadLine
+pub unknown_alone : (front : List ℕ) (letters : Letters) → None ≡ session_word_from (letters_of letters) → IsStage front (Beginning letters) → session_code (fields front) ≡ Some BadLine
 unknown_alone front letters none is =
-    let no : word_from (is.first ∷ is.others) ≡ None = sym (ap word_from is.letters_are) ∙ sym none in
+    let no : session_word_from (is.first ∷ is.others) ≡ None = sym (ap session_word_from is.letters_are) ∙ sym none in
     ap session_code (first_alone front letters is ∙ ap (λ (l : List ℕ). l ∷ []) is.letters_are) ∙ no_line is.first is.others is.no_remark no
 
-pub word_alone : (front : List ℕ) (letters : Letters) (word : Word) (line : Line) → Some word ≡ word_from (letters_of letters)
-    → ((row : Row) → IsNumbers row Nothing → IsLine (spelling word ∷ row) line) → IsStage front (Beginning letters) → IsLine (fields front) line
+pub word_alone : (front : List ℕ) (letters : Letters) (word : SessionWord) (line : Line) → Some word ≡ session_word_from (letters_of letters)
+    → ((row : Row) → IsNumbers row Nothing → IsLine (session_spelling word ∷ row) line) → IsStage front (Beginning letters) → IsLine (fields front) line
 word_alone front letters word line is_word reads is =
-    rw (first_alone front letters is, spelled spelling words (letters_of letters) word (sym is_word)) (reads [] refl)
+    rw (first_alone front letters is, spelled session_spelling session_words (letters_of letters) word (sym is_word)) (reads [] refl)
 
-pub whole_line : (front : List ℕ) (word : Word) (numbers ended : Numbers) (field : Field) (line : Line)
+pub whole_line : (front : List ℕ) (word : SessionWord) (numbers ended : Numbers) (field : Field) (line : Line)
     → ((row : Row) (last : List ℕ) → IsNumbers row numbers → IsField last field → IsNumbers (row ++ as_row last) ended)
-    → ((row : Row) → IsNumbers row ended → IsLine (spelling word ∷ row) line) → IsStage front (Behind word numbers field) → IsLine (fields front) line
+    → ((row : Row) → IsNumbers row ended → IsLine (session_spelling word ∷ row) line) → IsStage front (Behind word numbers field) → IsLine (fields front) line
 whole_line front word numbers ended field line ends reads is =
-    let row : fields front ≡ spelling word ∷ (is.whole ++ as_row is.last) =
-    ap fields (sym (append-nil front)) ∙ is.goes_on [] ∙ ap (λ (l : Row). spelling word ∷ (is.whole ++ l)) (ended_by_line is.last is.no_blank) in
+    let row : fields front ≡ session_spelling word ∷ (is.whole ++ as_row is.last) =
+    ap fields (sym (append-nil front)) ∙ is.goes_on [] ∙ ap (λ (l : Row). session_spelling word ∷ (is.whole ++ l)) (ended_by_line is.last is.no_blank) in
     rw row (reads (is.whole ++ as_row is.last) (ends is.whole is.last is.numbers_are is.field_is))
 
 -- nine bytes are nine letters

@@ -31,9 +31,9 @@ use Rattle.session_lines.proofs.Grouped.{other_within}
 use Rattle.session_lines.specs.declared.lines.Stage.TheVariants.{Beginning, Listing as a_listing}
 use Rattle.session_lines.specs.declared.tables.Listing.{Listing}
 use Rattle.session_lines.specs.declared.tables.Listing.TheVariants.{Faulty, Unkept}
-use Rattle.session_lines.specs.Fields.{IsField, as_row, number_of, signed_field}
+use Rattle.session_lines.specs.Fields.{IsField, as_row, field_number_of, signed_field}
 use Rattle.session_lines.specs.Judging.{IsStage, letters_of}
-use Rattle.session_lines.specs.Listings.{AreInOrder, AreListed, IsListing, has_room, is_sized, is_whole, kept_size, numbers_by}
+use Rattle.session_lines.specs.Listings.{AreInOrder, AreListed, IsListing, has_room, is_sized, is_whole, listed_size, numbers_by}
 use Rattle.session_lines.specs.SessionLines.{session_code, AsksForTable, IsLine}
 use Rattle.session_lines.specs.Tables.{is_no_table, is_table_size, numbers_of_table, pairs_of, table_code}
 use Rattle.session_lines.proofs.Fieldwise.{ended_by_blank, ended_by_line, one_more}
@@ -78,7 +78,7 @@ size_kept a b =
     ]
 
 -- of fields of which none is refused the sizes are as they are kept
-one_size : (field : List ℕ) → option_map_or is_refused (numeral field) false ≡ false → kept_size field ≡ size_of field
+one_size : (field : List ℕ) → option_map_or is_refused (numeral field) false ≡ false → listed_size field ≡ size_of field
 one_size field plain =
     elim (known (numeral field)) [
       | inl none ↦ rw none refl
@@ -87,22 +87,22 @@ one_size field plain =
           rw is (ap (λ (n : Numeral). n.size) (kept_number a other))
     ]
 
-plain_sizes : (row : Row) → some_numeral is_refused row ≡ false → map kept_size row ≡ map size_of row
+plain_sizes : (row : Row) → some_numeral is_refused row ≡ false → map listed_size row ≡ map size_of row
 plain_sizes [] plain = refl
 plain_sizes (field ∷ others) plain =
     let parts = or_parts _ _ plain in
-    ap (λ (n : ℕ). n ∷ map kept_size others) (one_size field parts.0) ∙ ap (λ (l : List ℕ). size_of field ∷ l) (plain_sizes others parts.1)
+    ap (λ (n : ℕ). n ∷ map listed_size others) (one_size field parts.0) ∙ ap (λ (l : List ℕ). size_of field ∷ l) (plain_sizes others parts.1)
 
 -- ---- all numbers of a table
 module _ (row : Row) (sizes : List ℕ) (refused : Bool) (are : AreListed row sizes refused) where
   count_is : length sizes ≡ length row
-  count_is = ap length are.sizes_are ∙ length-map row kept_size
+  count_is = ap length are.sizes_are ∙ length-map row listed_size
 
   first_is : slice_index_or sizes 0 0 ≡ min (size_at row 0) (2 ^ 64 - 1)
-  first_is = ap (λ (l : List ℕ). slice_index_or l 0 0) are.sizes_are ∙ get_or-map kept_size row 0 []
+  first_is = ap (λ (l : List ℕ). slice_index_or l 0 0) are.sizes_are ∙ get_or-map listed_size row 0 []
 
   second_is : slice_index_or sizes 1 0 ≡ min (size_at row 1) (2 ^ 64 - 1)
-  second_is = ap (λ (l : List ℕ). slice_index_or l 1 0) are.sizes_are ∙ get_or-map kept_size row 1 []
+  second_is = ap (λ (l : List ℕ). slice_index_or l 1 0) are.sizes_are ∙ get_or-map listed_size row 1 []
 
   sized_is : is_sized sizes ≡ is_table_size (size_at row 0) (size_at row 1)
   sized_is = rw (first_is, second_is) (size_kept (size_at row 0) (size_at row 1))
@@ -164,7 +164,7 @@ module _ (row : Row) (sizes : List ℕ) (refused : Bool) (are : AreListed row si
       ]
 
   -- one number more, for which no memory was given
-  pub in_order : has_room sizes ≡ true → (field : List ℕ) (n : Numeral) → Some n ≡ number_of field → AreInOrder (row ++ field ∷ [])
+  pub in_order : has_room sizes ≡ true → (field : List ℕ) (n : Numeral) → Some n ≡ field_number_of field → AreInOrder (row ++ field ∷ [])
   in_order room field n is =
       let k = kept_as field n is in
       let test : List ℕ → Bool = λ f. is_none (numeral f) in
@@ -194,7 +194,7 @@ or_first : (a b : Bool) → b ≡ true → (a || b) ≡ true
 or_first true b e = refl
 or_first false b e = e
 
-pub no_number_row : (row : Row) (field : List ℕ) (more : Row) → None ≡ number_of field → table_code ((row ++ field ∷ []) ++ more) ≡ Some BadLine
+pub no_number_row : (row : Row) (field : List ℕ) (more : Row) → None ≡ field_number_of field → table_code ((row ++ field ∷ []) ++ more) ≡ Some BadLine
 no_number_row row field more e =
     let none : numeral field ≡ None = no_numeral field e in
     let test : List ℕ → Bool = λ f. is_none (numeral f) in
@@ -213,7 +213,7 @@ pub still_faulty : (row : Row) (field : List ℕ) → IsListing row Faulty → I
 still_faulty row field is more = rw (append_assoc row (field ∷ []) more) (is (field ∷ more))
 
 -- a number for which no memory was given ends those that are in order
-pub first_unkept : (row : Row) (field : List ℕ) (sizes : List ℕ) (refused : Bool) (n : Numeral) → AreListed row sizes refused → has_room sizes ≡ true → Some n ≡ number_of field → IsListing (row ++ field ∷ []) Unkept
+pub first_unkept : (row : Row) (field : List ℕ) (sizes : List ℕ) (refused : Bool) (n : Numeral) → AreListed row sizes refused → has_room sizes ≡ true → Some n ≡ field_number_of field → IsListing (row ++ field ∷ []) Unkept
 first_unkept row field sizes refused n are room is = record {
   front = row ++ field ∷ [];
   rest = [];
@@ -232,18 +232,18 @@ still_unkept row field is = record {
 }
 
 -- one number more
-pub listed_more : (row : Row) (field : List ℕ) (sizes more : List ℕ) (refused : Bool) (n : Numeral) → AreListed row sizes refused → Some n ≡ number_of field → more ≡ sizes ++ n.size ∷ []
+pub listed_more : (row : Row) (field : List ℕ) (sizes more : List ℕ) (refused : Bool) (n : Numeral) → AreListed row sizes refused → Some n ≡ field_number_of field → more ≡ sizes ++ n.size ∷ []
     → AreListed (row ++ field ∷ []) more (refused || is_refused n)
 listed_more row field sizes more refused n are is more_is =
     let k = kept_as field n is in
     let test : List ℕ → Bool = λ f. is_none (numeral f) in
     let bad : List ℕ → Bool = λ f. option_map_or is_refused (numeral f) false in
-    let size : n.size ≡ kept_size field = ap (λ (m : Numeral). m.size) k.kept_as ∙ rw k.is refl in
+    let size : n.size ≡ listed_size field = ap (λ (m : Numeral). m.size) k.kept_as ∙ rw k.is refl in
     let same : is_refused n ≡ is_refused k.a = ap is_refused k.kept_as ∙ kept_refused k.a in
     let here : list_any bad (field ∷ []) ≡ (is_refused k.a || false) = rw k.is refl in
     record {
       numerals = list_any-append test row (field ∷ []) ∙ rw (are.numerals, k.is) refl;
-      sizes_are = more_is ∙ ap (λ (l : List ℕ). l ++ n.size ∷ []) are.sizes_are ∙ ap (λ (m : ℕ). map kept_size row ++ m ∷ []) size ∙ sym (map-append kept_size row (field ∷ []));
+      sizes_are = more_is ∙ ap (λ (l : List ℕ). l ++ n.size ∷ []) are.sizes_are ∙ ap (λ (m : ℕ). map listed_size row ++ m ∷ []) size ∙ sym (map-append listed_size row (field ∷ []));
       refused_is = ap (λ (b : Bool). b || is_refused n) are.refused_is ∙ ap (λ (b : Bool). some_numeral is_refused row || b) (same ∙ or_none (is_refused k.a) ∙ sym here) ∙ sym (list_any-append bad row (field ∷ []));
     }
   where
@@ -253,21 +253,21 @@ listed_more row field sizes more refused n are is more_is =
 
 -- ---- a field that ends is one more
 module _ (row : Row) (last : List ℕ) (old new : Listing) (listing : IsListing row old) where
-  one_ended : (a : Option Numeral) → 0 < length last → a ≡ number_of last
-      → ((r : Row) (f : List ℕ) → IsListing r old → a ≡ number_of f → IsListing (r ++ f ∷ []) new) → IsListing (row ++ as_row last) new
+  one_ended : (a : Option Numeral) → 0 < length last → a ≡ field_number_of last
+      → ((r : Row) (f : List ℕ) → IsListing r old → a ≡ field_number_of f → IsListing (r ++ f ∷ []) new) → IsListing (row ++ as_row last) new
   one_ended a some is and = rw (as_one last some) (and row last listing is)
 
-  pub minus_listed : IsField last Minus → ((r : Row) (f : List ℕ) → IsListing r old → None ≡ number_of f → IsListing (r ++ f ∷ []) new) → IsListing (row ++ as_row last) new
+  pub minus_listed : IsField last Minus → ((r : Row) (f : List ℕ) → IsListing r old → None ≡ field_number_of f → IsListing (r ++ f ∷ []) new) → IsListing (row ++ as_row last) new
   minus_listed is and = one_ended None (rw is (omega arith)) (rw is refl) and
 
-  pub number_listed : (n : Numeral) → IsField last (Number n) → ((r : Row) (f : List ℕ) → IsListing r old → Some n ≡ number_of f → IsListing (r ++ f ∷ []) new) → IsListing (row ++ as_row last) new
+  pub number_listed : (n : Numeral) → IsField last (Number n) → ((r : Row) (f : List ℕ) → IsListing r old → Some n ≡ field_number_of f → IsListing (r ++ f ∷ []) new) → IsListing (row ++ as_row last) new
   number_listed n is and = one_ended (Some n) (signed_length n.has_minus is.digits is.some is.signed) (number_is last n is) and
     where
       signed_length : (has_minus : Bool) (digits : List ℕ) → 0 < length digits → last ≡ signed_field has_minus digits → 0 < length last
       signed_length true digits some e = rw e (omega arith)
       signed_length false digits some e = rw e some
 
-  pub other_listed : IsField last Other → ((r : Row) (f : List ℕ) → IsListing r old → None ≡ number_of f → IsListing (r ++ f ∷ []) new) → IsListing (row ++ as_row last) new
+  pub other_listed : IsField last Other → ((r : Row) (f : List ℕ) → IsListing r old → None ≡ field_number_of f → IsListing (r ++ f ∷ []) new) → IsListing (row ++ as_row last) new
   other_listed is and = one_ended None is.0 (no_number last is) and
 
 pub no_field_listed : (row : Row) (last : List ℕ) (listing : Listing) → last ≡ [] → IsListing row listing → IsListing (row ++ as_row last) listing

@@ -13,8 +13,8 @@ use Rattle.session_lines.specs.declared.fields.Numbers.{Numbers}
 use Rattle.session_lines.specs.declared.fields.Numbers.TheVariants.{Nothing, One, Two, Three, TooMany}
 
 -- the numeral that a field is, if it is one, as the program keeps it
-abbrev pub number_of : List ℕ → Option Numeral
-number_of field = option_map kept (numeral field)
+abbrev pub field_number_of : List ℕ → Option Numeral
+field_number_of field = option_map kept (numeral field)
 
 -- a minus, if there is one, and digits
 abbrev pub signed_field : Bool → List ℕ → List ℕ
@@ -42,23 +42,23 @@ IsField field Other = (0 < length field) × ((more : List ℕ) → numeral (fiel
 pub record IsOne (row : Row) (a : Option Numeral) : Type 0 where
   pub field : List ℕ
   pub row_is : row ≡ field ∷ []
-  pub number : a ≡ number_of field
+  pub number : a ≡ field_number_of field
 
 pub record AreTwo (row : Row) (a b : Option Numeral) : Type 0 where
   pub first : List ℕ
   pub second : List ℕ
   pub row_is : row ≡ first ∷ second ∷ []
-  pub first_number : a ≡ number_of first
-  pub second_number : b ≡ number_of second
+  pub first_number : a ≡ field_number_of first
+  pub second_number : b ≡ field_number_of second
 
 pub record AreThree (row : Row) (a b c : Option Numeral) : Type 0 where
   pub first : List ℕ
   pub second : List ℕ
   pub third : List ℕ
   pub row_is : row ≡ first ∷ second ∷ third ∷ []
-  pub first_number : a ≡ number_of first
-  pub second_number : b ≡ number_of second
-  pub third_number : c ≡ number_of third
+  pub first_number : a ≡ field_number_of first
+  pub second_number : b ≡ field_number_of second
+  pub third_number : c ≡ field_number_of third
 
 -- what is known of the fields behind a word
 abbrev pub IsNumbers : Row → Numbers → Type 0

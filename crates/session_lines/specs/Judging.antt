@@ -8,7 +8,7 @@ use Rattle.dimacs.specs.Lines.{is_blank, fields}
 use Rattle.session_lines.specs.declared.fields.Field.{Field}
 use Rattle.session_lines.specs.declared.fields.Numbers.{Numbers}
 use Rattle.session_lines.specs.declared.tables.Listing.{Listing}
-use Rattle.session_lines.specs.declared.words.Word.{Word}
+use Rattle.session_lines.specs.declared.words.SessionWord.{SessionWord}
 use Rattle.session_lines.specs.declared.letters.Letters.{Letters}
 use Rattle.session_lines.specs.declared.lines.Stage.{Stage}
 use Rattle.session_lines.specs.declared.lines.Stage.TheVariants.{Blank, Beginning, Remark, Unknown, Behind, Listing as a_listing, Unnamed, Naming, Named}
@@ -16,7 +16,7 @@ use Rattle.session_lines.specs.declared.lines.LineSoFar.{LineSoFar}
 use Rattle.session_lines.specs.Fields.{IsField, IsNumbers}
 use Rattle.session_lines.specs.Listings.{IsListing}
 use Rattle.session_lines.specs.SessionLines.{session_code, name_of}
-use Rattle.session_lines.specs.Spelled.{spelling}
+use Rattle.session_lines.specs.Spelled.{session_spelling}
 
 -- the bytes of the first field
 abbrev pub letters_of : Letters → List ℕ
@@ -36,13 +36,13 @@ pub record BeginsWith (front letters : List ℕ) : Type 0 where
   pub goes_on : (more : List ℕ) → fields (front ++ more) ≡ fields (letters ++ more)
 
 -- the line begins with this word, then has whole fields and one that may go on
-pub record GoesOnBehind (front : List ℕ) (word : Word) (numbers : Numbers) (field : Field) : Type 0 where
+pub record GoesOnBehind (front : List ℕ) (word : SessionWord) (numbers : Numbers) (field : Field) : Type 0 where
   pub whole : Row
   pub last : List ℕ
   pub numbers_are : IsNumbers whole numbers
   pub field_is : IsField last field
   pub no_blank : IsOneField last
-  pub goes_on : (more : List ℕ) → fields (front ++ more) ≡ spelling word ∷ (whole ++ fields (last ++ more))
+  pub goes_on : (more : List ℕ) → fields (front ++ more) ≡ session_spelling word ∷ (whole ++ fields (last ++ more))
 
 -- the line begins with `table`, then has whole fields and one that may go on
 pub record GoesOnListing (front : List ℕ) (listing : Listing) (field : Field) : Type 0 where

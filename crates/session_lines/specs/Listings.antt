@@ -12,13 +12,13 @@ use Rattle.session_lines.specs.declared.asked_tables.Table.{Table}
 use Rattle.session_lines.specs.Tables.{is_table_size, numbers_of_table, table_code}
 
 -- a size as the program keeps it
-abbrev pub kept_size : List ℕ → ℕ
-kept_size field = min (size_of field) (2 ^ 64 - 1)
+abbrev pub listed_size : List ℕ → ℕ
+listed_size field = min (size_of field) (2 ^ 64 - 1)
 
 -- each field is a numeral, of which the size is kept, and whether one of them is refused
 pub record AreListed (row : Row) (sizes : List ℕ) (refused : Bool) : Type 0 where
   pub numerals : list_any (λ field. is_none (numeral field)) row ≡ false
-  pub sizes_are : sizes ≡ map kept_size row
+  pub sizes_are : sizes ≡ map listed_size row
   pub refused_is : refused ≡ some_numeral is_refused row
 
 -- how many numbers a table has whose first ones are these

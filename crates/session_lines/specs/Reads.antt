@@ -34,7 +34,7 @@ HasNoLine Taken text = text ≡ []
 HasNoLine Dropped text = All (λ b. b ≢ 10) text
 
 -- the first line of the text asks for this, and what follows it is left; or the text has no line, and is read to its end; or the reader failed
-abbrev pub ReadsLine : LastLine → List ℕ → Option (List ℕ) → Result (Option Line) Code → Type 0
-ReadsLine last_line text left (Ok (Some line)) = ReadsOne last_line text left line
-ReadsLine last_line text left (Ok None) = HasNoLine last_line text × (left ≡ Some [])
-ReadsLine last_line text left (Err code) = FailsInLine text left
+abbrev pub ReadsSessionLine : LastLine → List ℕ → Option (List ℕ) → Result (Option Line) Code → Type 0
+ReadsSessionLine last_line text left (Ok (Some line)) = ReadsOne last_line text left line
+ReadsSessionLine last_line text left (Ok None) = HasNoLine last_line text × (left ≡ Some [])
+ReadsSessionLine last_line text left (Err code) = FailsInLine text left

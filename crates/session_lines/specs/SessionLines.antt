@@ -41,8 +41,8 @@ abbrev pub grouped_code : Row → Option Code
 grouped_code row = command_code grouped_forms [] row
 
 -- what a line asks for, by its word and the numbers behind it
-abbrev pub line_from : List ℕ → Row → Option Line
-line_from word others = if bytes_eq word (codes "dist") then Some (Query (Dist (size_at others 0) (size_at others 1)))
+abbrev pub session_line_from : List ℕ → Row → Option Line
+session_line_from word others = if bytes_eq word (codes "dist") then Some (Query (Dist (size_at others 0) (size_at others 1)))
     else (if bytes_eq word (codes "from") then Some (Query (From (size_at others 0) (size_at others 1)))
     else (if bytes_eq word (codes "lower") then Some (Query (Lower (size_at others 0) (size_at others 1)))
     else (if bytes_eq word (codes "arc") then Some (Look (Arc (size_at others 0)))
@@ -63,13 +63,13 @@ line_from word others = if bytes_eq word (codes "dist") then Some (Query (Dist (
     else (if bytes_eq word (codes "forget") then Some Forget
     else option_map Command (command_from word others)))))))))))))))))))
 
-abbrev pub line_of : Row → Option Line
-line_of [] = None
-line_of (word ∷ others) = line_from word others
+abbrev pub session_line_of : Row → Option Line
+session_line_of [] = None
+session_line_of (word ∷ others) = session_line_from word others
 
 -- the line has no fault and asks for this
 abbrev pub AsksFor : Row → Line → Type 0
-AsksFor row line = (session_code row ≡ None) × (line_of row ≡ Some line)
+AsksFor row line = (session_code row ≡ None) × (session_line_of row ≡ Some line)
 
 -- the line has no fault and asks for these sources and targets
 pub record AsksForTable (row : Row) (sources targets : List ℕ) : Type 0 where

@@ -1,6 +1,6 @@
 //! The group in which lines of a session are.
 ghost use Rattle.std.specs.Prelude.{MatchResult};
-ghost use Rattle.session_lines.specs.Drafts.{Drafted, no_draft, with_fault, with_command, with_line, IsDraft, IsNoGroup, IsWhole};
+ghost use Rattle.session_lines.specs.Drafts.{Drafted, no_draft, with_fault, draft_with_command, with_line, IsDraft, IsNoGroup, IsWhole};
 
 use crate::lines::Line;
 use dimacs::Code;
@@ -29,7 +29,7 @@ pub enum NoGroup {
 
 /// These commands and one more.
 fn added(mut commands: Vec<Command>, command: Command) -> Draft
-    ensures { (draft : Drafted) → IsDraft draft (Draft.Whole commands) → IsDraft (with_command draft command) result }
+    ensures { (draft : Drafted) → IsDraft draft (Draft.Whole commands) → IsDraft (draft_with_command draft command) result }
 {
     let count = commands.len();
     if count >= MOST_OF_GROUP {
@@ -62,7 +62,7 @@ impl Draft {
 
     /// With one more command. A 254th is a fault (`GroupSize`).
     fn and(self, command: Command) -> Draft
-        ensures { (draft : Drafted) → IsDraft draft self → IsDraft (with_command draft command) result }
+        ensures { (draft : Drafted) → IsDraft draft self → IsDraft (draft_with_command draft command) result }
     {
         match self {
             Draft::Whole(commands) => added(commands, command),

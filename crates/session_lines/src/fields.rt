@@ -1,7 +1,7 @@
 //! Fields for numbers, taken byte by byte: none of their bytes is kept.
 ghost use Rattle.std.specs.Prelude.{◌≡◌, ◌≢◌, ◌∷◌, ◌++◌, [], List, ℕ, Some, false, MatchOption};
 ghost use Rattle.dimacs.specs.Faults.{Row};
-ghost use Rattle.session_lines.specs.Fields.{IsField, IsNumbers, HasDigits, signed_field, number_of, as_row, has_one, has_two, has_three};
+ghost use Rattle.session_lines.specs.Fields.{IsField, IsNumbers, HasDigits, signed_field, field_number_of, as_row, has_one, has_two, has_three};
 
 use dimacs::Numeral;
 
@@ -68,7 +68,7 @@ impl Field {
 impl Numbers {
     /// These, and one more field.
     fn and(self, number: Option<Numeral>) -> Numbers
-        ensures { (row : Row) (field : List ℕ) → IsNumbers row self → number ≡ number_of field → IsNumbers (row ++ field ∷ []) result }
+        ensures { (row : Row) (field : List ℕ) → IsNumbers row self → number ≡ field_number_of field → IsNumbers (row ++ field ∷ []) result }
     {
         match self {
             Numbers::Nothing => Numbers::One(number),

@@ -2,9 +2,9 @@
 ghost use Rattle.std.specs.Prelude.{◌≡◌, ◌≤◌, ◌∷◌, ◌++◌, [], take, MatchOption};
 ghost use Rattle.std.specs.Str.{bytes_eq};
 ghost use lib.Chars.{codes};
-ghost use Rattle.session_lines.specs.Spelled.{word_from};
+ghost use Rattle.session_lines.specs.Spelled.{session_word_from};
 
-use crate::words::{Word, is_copy, is_table, word_of};
+use crate::words::{SessionWord, is_copy, is_table, word_of};
 
 /// The most bytes that a word has.
 const LONGEST_WORD: usize = 9;
@@ -43,8 +43,8 @@ impl Letters {
     }
 
     /// The word that they spell.
-    pub fn word(&self) -> Option<Word>
-        ensures { result ≡ word_from (take self.now.count self.now.bytes) }
+    pub fn word(&self) -> Option<SessionWord>
+        ensures { result ≡ session_word_from (take self.now.count self.now.bytes) }
     {
         word_of(&self.bytes[..self.count])
     }

@@ -7,7 +7,7 @@ ghost use Rattle.dimacs.specs.Commands.{is_refused};
 ghost use Rattle.dimacs.specs.Faults.{Row};
 ghost use Rattle.dimacs.specs.Lines.{is_blank, fields};
 ghost use Rattle.session_lines.specs.Fields.{IsNumbers};
-ghost use Rattle.session_lines.specs.Spelled.{spelling};
+ghost use Rattle.session_lines.specs.Spelled.{session_spelling};
 ghost use Rattle.session_lines.specs.Words.{bare_line, one_line, two_line};
 ghost use Rattle.session_lines.specs.SessionLines.{IsLine, session_code};
 ghost use Rattle.session_lines.specs.Judging.{IsStage, IsSoFar};
@@ -18,7 +18,7 @@ use crate::fields::{Field, Numbers, one_of, three_of, two_of};
 use crate::letters::Letters;
 use crate::names::{Name, is_name_byte};
 use crate::tables::Listing;
-use crate::words::{Bare, One, Two, Word};
+use crate::words::{Bare, One, SessionWord, Two};
 use dimacs::{Code, Numeral, TwoNumbers};
 use printing::Look;
 use roadnet::Command;
@@ -100,7 +100,7 @@ pub enum Stage {
     Unknown,
     /// After a word: the complete fields, and the one that may continue.
     Behind {
-        word: Word,
+        word: SessionWord,
         numbers: Numbers,
         field: Field,
     },
@@ -197,7 +197,7 @@ fn two_line(word: Two, first: u64, second: u64) -> Line
 
 /// What a word without numbers asks for.
 fn read_bare(word: Bare, numbers: Numbers) -> Line
-    ensures { (row : Row) → IsNumbers row numbers → IsLine (spelling (Word.WithNone word) ∷ row) result }
+    ensures { (row : Row) → IsNumbers row numbers → IsLine (session_spelling (SessionWord.WithNone word) ∷ row) result }
 {
     match numbers {
         Numbers::Nothing => bare_line(word),
@@ -210,7 +210,7 @@ fn read_bare(word: Bare, numbers: Numbers) -> Line
 
 /// What a word with one number after it asks for.
 fn read_one(word: One, numbers: Numbers) -> Line
-    ensures { (row : Row) → IsNumbers row numbers → IsLine (spelling (Word.WithOne word) ∷ row) result }
+    ensures { (row : Row) → IsNumbers row numbers → IsLine (session_spelling (SessionWord.WithOne word) ∷ row) result }
 {
     let Some(number) = one_of(numbers) else {
         return bad_line();
@@ -226,7 +226,7 @@ fn read_one(word: One, numbers: Numbers) -> Line
 
 /// What a word with two numbers after it asks for.
 fn read_two(word: Two, numbers: Numbers) -> Line
-    ensures { (row : Row) → IsNumbers row numbers → IsLine (spelling (Word.WithTwo word) ∷ row) result }
+    ensures { (row : Row) → IsNumbers row numbers → IsLine (session_spelling (SessionWord.WithTwo word) ∷ row) result }
 {
     let Some((first, second)) = two_of(numbers) else {
         return bad_line();
@@ -249,7 +249,7 @@ fn is_one_refused(first: Numeral, second: Numeral, third: Numeral) -> bool
 
 /// What `lay` asks for, given the tail, the head and the length after it.
 fn read_lay(numbers: Numbers) -> Line
-    ensures { (row : Row) → IsNumbers row numbers → IsLine (spelling Word.Lay ∷ row) result }
+    ensures { (row : Row) → IsNumbers row numbers → IsLine (session_spelling SessionWord.Lay ∷ row) result }
 {
     let Some((tail, head, length)) = three_of(numbers) else {
         return bad_line();
@@ -268,14 +268,14 @@ fn read_lay(numbers: Numbers) -> Line
 }
 
 /// What a line asks for, given its word and what follows it.
-fn read_line(word: Word, numbers: Numbers) -> Line
-    ensures { (row : Row) → IsNumbers row numbers → IsLine (spelling word ∷ row) result }
+fn read_line(word: SessionWord, numbers: Numbers) -> Line
+    ensures { (row : Row) → IsNumbers row numbers → IsLine (session_spelling word ∷ row) result }
 {
     match word {
-        Word::WithNone(word) => read_bare(word, numbers),
-        Word::WithOne(word) => read_one(word, numbers),
-        Word::WithTwo(word) => read_two(word, numbers),
-        Word::Lay => read_lay(numbers),
+        SessionWord::WithNone(word) => read_bare(word, numbers),
+        SessionWord::WithOne(word) => read_one(word, numbers),
+        SessionWord::WithTwo(word) => read_two(word, numbers),
+        SessionWord::Lay => read_lay(numbers),
     }
 }
 
@@ -326,7 +326,7 @@ fn behind(alloc: Global, letters: Letters, blank: u8) -> Stage
 }
 
 /// A line that continues after its word.
-fn with_field(word: Word, numbers: Numbers, field: Field, byte: u8) -> Stage
+fn with_field(word: SessionWord, numbers: Numbers, field: Field, byte: u8) -> Stage
     ensures { (front : List ℕ) → IsStage front (Stage.Behind word numbers field) → IsStage (front ++ byte ∷ []) result }
 {
     if is_blank(byte) {

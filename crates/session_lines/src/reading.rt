@@ -1,7 +1,7 @@
 //! The lines that a client sends.
 ghost use Rattle.std.specs.Prelude.{◌≡◌, IfErr, IfSome};
 ghost use Rattle.dimacs.specs.Counts.{failed_calls, reader_of, IsSameReader, CountsCall};
-ghost use Rattle.session_lines.specs.Reads.{ReadsLine};
+ghost use Rattle.session_lines.specs.Reads.{ReadsSessionLine};
 
 use crate::lines::{Line, LineSoFar};
 use dimacs::{Code, Counted};
@@ -26,7 +26,7 @@ pub fn next_line<R: Wait, I: BufRead>(
     reader: &mut Counted<'_, I>,
     last_line: LastLine,
 ) -> Result<Option<Line>, Code>
-    ensures line { IfSome (I.remaining (reader_of reader.old)) (λ text. ReadsLine last_line text (I.remaining (reader_of reader.new)) result) }
+    ensures line { IfSome (I.remaining (reader_of reader.old)) (λ text. ReadsSessionLine last_line text (I.remaining (reader_of reader.new)) result) }
     ensures refused { IfErr result (λ code. code ≡ Code.Read) }
     ensures counts { CountsCall (failed_calls reader.old) (failed_calls reader.new) result }
     ensures same { IsSameReader reader.old reader.new }

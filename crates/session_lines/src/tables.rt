@@ -3,7 +3,7 @@ ghost use Rattle.std.specs.Prelude.{◌≡◌, ◌||◌, ◌+◌, ◌≤◌, ◌
 ghost use lib.Chars.{codes};
 ghost use Rattle.dimacs.specs.Commands.{is_refused};
 ghost use Rattle.dimacs.specs.Faults.{Row};
-ghost use Rattle.session_lines.specs.Fields.{IsField, as_row, number_of};
+ghost use Rattle.session_lines.specs.Fields.{IsField, as_row, field_number_of};
 ghost use Rattle.session_lines.specs.Listings.{AreListed, IsListing, has_room, is_sized, is_whole, numbers_by, sources_of, targets_of};
 ghost use Rattle.session_lines.specs.SessionLines.{IsLine};
 ghost use Rattle.session_lines.specs.Tables.{is_table_size, pairs_of};
@@ -120,7 +120,7 @@ fn is_refused_with(refused: bool, number: Numeral) -> bool
 
 /// These numbers and one more, if it may follow.
 fn with_number(mut sizes: Vec<u64>, refused: bool, number: Numeral) -> Listing
-    ensures { (row : Row) (field : List ℕ) → AreListed row sizes.items refused → Some number ≡ number_of field → IsListing (row ++ field ∷ []) result }
+    ensures { (row : Row) (field : List ℕ) → AreListed row sizes.items refused → Some number ≡ field_number_of field → IsListing (row ++ field ∷ []) result }
 {
     if !has_room(&sizes) {
         return Listing::Faulty;
@@ -167,7 +167,7 @@ impl Listing {
 
     /// With one more field.
     fn and(self, number: Option<Numeral>) -> Listing
-        ensures { (row : Row) (field : List ℕ) → IsListing row self → number ≡ number_of field → IsListing (row ++ field ∷ []) result }
+        ensures { (row : Row) (field : List ℕ) → IsListing row self → number ≡ field_number_of field → IsListing (row ++ field ∷ []) result }
     {
         match self {
             Listing::Numbers { sizes, refused } => match number {

@@ -4,7 +4,7 @@ ghost use Rattle.std.specs.Str.{bytes_eq};
 ghost use lib.Chars.{codes};
 ghost use Rattle.dimacs.specs.Spelling.{spelled_word};
 ghost use Rattle.session_lines.specs.Words.{one_out_of_range, two_out_of_range};
-ghost use Rattle.session_lines.specs.Spelled.{bare_spelling, bare_words, one_spelling, one_words, two_spelling, two_words, word_from};
+ghost use Rattle.session_lines.specs.Spelled.{bare_spelling, bare_words, one_session_spelling, one_session_words, two_session_spelling, two_session_words, session_word_from};
 
 use dimacs::{Code, OneNumber, TwoNumbers, word_of_one, word_of_two};
 
@@ -77,7 +77,7 @@ impl Two {
 
 /// A word by the numbers that follow it.
 #[derive(Clone, Copy)]
-pub enum Word {
+pub enum SessionWord {
     WithNone(Bare),
     WithOne(One),
     WithTwo(Two),
@@ -87,7 +87,7 @@ pub enum Word {
 
 /// The word with one number that a field spells.
 fn one_of_session(field: &[u8]) -> Option<One>
-    ensures { result ≡ spelled_word one_spelling one_words field.now }
+    ensures { result ≡ spelled_word one_session_spelling one_session_words field.now }
 {
     if let Some(word) = word_of_one(field) {
         return Some(One::Common(word));
@@ -103,7 +103,7 @@ fn one_of_session(field: &[u8]) -> Option<One>
 
 /// The word with two numbers that a field spells.
 fn two_of_session(field: &[u8]) -> Option<Two>
-    ensures { result ≡ spelled_word two_spelling two_words field.now }
+    ensures { result ≡ spelled_word two_session_spelling two_session_words field.now }
 {
     if let Some(word) = word_of_two(field) {
         return Some(Two::Common(word));
@@ -175,20 +175,20 @@ pub fn is_table(field: &[u8]) -> bool
 }
 
 /// The word that a field spells, if it is followed by a certain number of numbers.
-pub fn word_of(field: &[u8]) -> Option<Word>
-    ensures { result ≡ word_from field.now }
+pub fn word_of(field: &[u8]) -> Option<SessionWord>
+    ensures { result ≡ session_word_from field.now }
 {
     if let Some(word) = one_of_session(field) {
-        return Some(Word::WithOne(word));
+        return Some(SessionWord::WithOne(word));
     }
     if let Some(word) = two_of_session(field) {
-        return Some(Word::WithTwo(word));
+        return Some(SessionWord::WithTwo(word));
     }
     if let Some(word) = bare_of_session(field) {
-        return Some(Word::WithNone(word));
+        return Some(SessionWord::WithNone(word));
     }
     if field == b"lay".as_slice() {
-        return Some(Word::Lay);
+        return Some(SessionWord::Lay);
     }
     None
 }

@@ -33,8 +33,8 @@ use Rattle.session_lines.specs.Copying.{Copying, IsUnmade}
 use Rattle.sessions.specs.declared.queries.finding.Heading.TheVariants.{Shown as of_shown}
 use Rattle.sessions.specs.Headings.{untold_lines}
 use Rattle.sessions.specs.Nearby.{IsNearAnswer, IsTableAnswer, IsToldAfter, near_lines}
-use Rattle.sessions.specs.Told.{AnswersAfter, copied_line, copied_or_refusal, IsCopied, IsLooked, IsReached, HaveReceipts, HasMore, HasShown, ShowsLast, Carried, IsDeclined, claim_of, known_to}
-use Rattle.sessions.specs.Turns.{Standing, IsSessionAt, IsKept}
+use Rattle.sessions.specs.Told.{AnswersAfter, copied_line, copied_or_refusal, IsCopied, IsLookTold, IsReached, HaveReceipts, HasMore, HasShown, ShowsLast, Carried, IsDeclined, claim_of, known_to}
+use Rattle.sessions.specs.Turns.{SessionStanding, IsSessionAt, IsSessionKept}
 
 -- the answer by what was seen of the view
 pub answered : (origin : Origin) (groups known : List Group) (view : Viewed) (query : Query) (version : ℕ) (reply : Reply) → groups ≡ known → IsViewAfter origin groups view → version ≡ view.version
@@ -127,9 +127,9 @@ pub carried_declined : (origin : Origin) (before last : Option Accepted) (had ha
 carried_declined origin before last had has group refusal same declined = record { durable = declined.durable; settles = inl (same, declined.turned_down); kept = declined.kept }
 
 -- what the session has is in the closed history, and what it has seen was shown
-pub kept_in : (origin : Origin) (whole shown : Beginning) (place receipts : Option Beginning) (last : Standing) → whole.origin ≡ origin
+pub kept_in : (origin : Origin) (whole shown : Beginning) (place receipts : Option Beginning) (last : SessionStanding) → whole.origin ≡ origin
     → IfSome receipts (λ front. IsPrefix front.groups whole.groups × (front.acknowledged ≤ whole.acknowledged)) → IsPrefix (known_to place) shown.groups
-    → IsSessionAt origin place receipts last → IsKept whole shown last
+    → IsSessionAt origin place receipts last → IsSessionKept whole shown last
 kept_in origin whole shown place None last same held seen is = record {
   durable = λ kept keeps. rw is.durable (All-nil (IsAt whole.origin.version kept));
   known = λ kept keeps. rw is.known (prefix_trans (known_to place) shown.groups kept seen keeps.shown_too);
@@ -145,7 +145,7 @@ kept_in origin whole shown place (Some front) last same held seen is = record {
 -- ---- what is told of what is shown
 
 -- the lines of what was seen of the view
-pub looked : (origin : Origin) (groups known : List Group) (view : Viewed) (look : Look) → groups ≡ known → IsViewAfter origin groups view → IsLooked origin known look (look_lines view.network view.version look)
+pub looked : (origin : Origin) (groups known : List Group) (view : Viewed) (look : Look) → groups ≡ known → IsViewAfter origin groups view → IsLookTold origin known look (look_lines view.network view.version look)
 looked origin groups known view look seen is =
     let there : IsViewAfter origin known view = subst (λ (gs : List Group). IsViewAfter origin gs view) seen is in
     inl (record { network = view.network; network_is = there.network; told_is = ap (λ (v : ℕ). look_lines view.network v look) there.version })

@@ -13,7 +13,7 @@ use Rattle.machine.specs.declared.calls.Ticket.{Ticket}
 use Rattle.machine.specs.Laws.{IsAt}
 use Rattle.desk.specs.Turns.{IsRefusedOn, IsUnserved}
 use Rattle.sessions.proofs.Answered.{nothing_more}
-use Rattle.sessions.specs.Told.{HaveReceipts, HasMore, IsDeclined, numbered}
+use Rattle.sessions.specs.Told.{HaveReceipts, HasMore, IsDeclined, numbered_groups}
 
 -- the group behind these has the number behind theirs
 at_end : (version : ℕ) (done : List Group) (group : Group) → IsAt version (done ++ group ∷ []) (record { number = version + length done + 1; group = group })
@@ -23,7 +23,7 @@ at_end version done group =
 
 -- Of a beginning of the history in which so many groups are acknowledged each has its number, and is acknowledged.
 all_numbered : (front : Beginning) (done groups : List Group) (version : ℕ) → version ≡ front.origin.version + length done → IsPrefix (done ++ groups) front.groups → version + length groups ≤ front.acknowledged
-    → All (IsAcknowledgedIn front) (numbered version groups)
+    → All (IsAcknowledgedIn front) (numbered_groups version groups)
 all_numbered front done [] version is begins told = All-nil (IsAcknowledgedIn front)
 all_numbered front done (group ∷ groups) version is begins told =
     let seam : (done ++ group ∷ []) ++ groups ≡ done ++ group ∷ groups = append_assoc done (group ∷ []) groups in
@@ -34,30 +34,30 @@ all_numbered front done (group ∷ groups) version is begins told =
     let there : IsAt front.origin.version (done ++ group ∷ []) ticket =
     subst (λ (n : ℕ). IsAt front.origin.version (done ++ group ∷ []) (record { number = n; group = group })) same (at_end front.origin.version done group) in
     let next : version + 1 ≡ front.origin.version + length (done ++ group ∷ []) = omega (arith, is, length-append done (group ∷ [])) in
-    All-cons (IsAcknowledgedIn front) ticket (numbered (version + 1) groups) (record { at = at_more front.origin.version (done ++ group ∷ []) front.groups ticket first there; acknowledged = omega (arith, told) })
+    All-cons (IsAcknowledgedIn front) ticket (numbered_groups (version + 1) groups) (record { at = at_more front.origin.version (done ++ group ∷ []) front.groups ticket first there; acknowledged = omega (arith, told) })
     (all_numbered front (done ++ group ∷ []) groups (version + 1) next longer (omega (arith, told)))
 
 -- the groups that begin it
 all_of : (origin : Origin) (front : Beginning) (groups : List Group) → front.origin ≡ origin → IsPrefix groups front.groups → origin.version + length groups ≤ front.acknowledged
-    → All (IsAcknowledgedIn front) (numbered origin.version groups)
+    → All (IsAcknowledgedIn front) (numbered_groups origin.version groups)
 all_of origin front groups of begins told = all_numbered front [] groups origin.version (let same = ap (λ (o : Origin). o.version) of in omega (arith, same)) begins told
 
 -- a beginning that goes on from one that had some, and has these groups
 pub joined_basis : (origin : Origin) (had : Option Beginning) (first own longer : Beginning) (groups : List Group) → had ≡ Some first → first.origin ≡ origin → longer.origin ≡ first.origin
     → IsPrefix first.groups longer.groups → IsPrefix own.groups longer.groups → (first.acknowledged ≤ longer.acknowledged) × (own.acknowledged ≤ longer.acknowledged)
-    → IsPrefix groups own.groups → origin.version + length groups ≤ own.acknowledged → HasMore origin had (Some longer) (numbered origin.version groups)
+    → IsPrefix groups own.groups → origin.version + length groups ≤ own.acknowledged → HasMore origin had (Some longer) (numbered_groups origin.version groups)
 joined_basis origin had first own longer groups some first_of longer_of begins own_begins told in_own settled tickets held =
     let before : All (IsAcknowledgedIn first) tickets = (subst (λ (f : Option Beginning). HaveReceipts origin f tickets) some held).1 in
     let of : longer.origin ≡ origin = longer_of ∙ first_of in (
       of,
-      All-append (IsAcknowledgedIn longer) tickets (numbered origin.version groups)
+      All-append (IsAcknowledgedIn longer) tickets (numbered_groups origin.version groups)
           (λ k d lt. acknowledged_more first longer (get_or tickets k d) longer_of begins told.0 (before k d lt))
           (all_of origin longer groups of (prefix_trans groups own.groups longer.groups in_own own_begins) (let more = told.1 in omega (arith, settled, more))),
     )
 
 -- the first of them
 pub first_basis : (origin : Origin) (had : Option Beginning) (own front : Beginning) (groups : List Group) → had ≡ None → own.origin ≡ origin → front ≡ own
-    → IsPrefix groups own.groups → origin.version + length groups ≤ own.acknowledged → HasMore origin had (Some front) (numbered origin.version groups)
+    → IsPrefix groups own.groups → origin.version + length groups ≤ own.acknowledged → HasMore origin had (Some front) (numbered_groups origin.version groups)
 first_basis origin had own front groups none own_of same in_own settled tickets held =
     let empty : tickets ≡ [] = subst (λ (f : Option Beginning). HaveReceipts origin f tickets) none held in
     rw (same, empty) (own_of, all_of origin own groups own_of in_own settled)
@@ -77,9 +77,9 @@ declined_unsettled origin had has group first refusal basis same refused unserve
 
 -- where what it rests on is settled
 pub declined_settled : (origin : Origin) (had has : Option Beginning) (group : Group) (refusal : Refusal) (basis front : Beginning) → front.origin ≡ origin → IsRefusedOn origin group refusal (Some basis)
-    → HasMore front.origin had has (numbered front.origin.version basis.groups) → IsDeclined origin had has group refusal
+    → HasMore front.origin had has (numbered_groups front.origin.version basis.groups) → IsDeclined origin had has group refusal
 declined_settled origin had has group refusal basis front of refused more = record {
-  durable = numbered origin.version basis.groups;
+  durable = numbered_groups origin.version basis.groups;
   turned_down = inl (record { groups = basis.groups; refused = refused.1; all = refl });
-  kept = subst (λ (o : Origin). HasMore o had has (numbered o.version basis.groups)) of more;
+  kept = subst (λ (o : Origin). HasMore o had has (numbered_groups o.version basis.groups)) of more;
 }

@@ -10,7 +10,7 @@ use Rattle.history.specs.Claims.{IsAcknowledgedIn}
 use Rattle.history.proofs.Beginnings.{acknowledged_more, prefix_trans}
 use Rattle.machine.specs.declared.calls.Ticket.{Ticket}
 use Rattle.sessions.specs.Told.{HaveReceipts, known_to}
-use Rattle.sessions.specs.Turns.{Standing, IsSessionAt, IsKept, new_state}
+use Rattle.sessions.specs.Turns.{SessionStanding, IsSessionAt, IsSessionKept, new_state}
 use Rattle.sessions.specs.Past.{AreLeft, HoldsMore}
 use Rattle.sessions.proofs.Answered.{kept_in}
 
@@ -37,30 +37,30 @@ holds_nothing origin None of = holds_same origin None
 holds_nothing origin (Some front) of = holds_of_none origin front (of front refl)
 
 -- one session more
-pub left_with : (origin : Origin) (receipts more_receipts all_receipts seen more_seen all_seen place_receipts place : Option Beginning) (sessions : List Standing) (last : Standing)
+pub left_with : (origin : Origin) (receipts more_receipts all_receipts seen more_seen all_seen place_receipts place : Option Beginning) (sessions : List SessionStanding) (last : SessionStanding)
     → HoldsMore origin receipts all_receipts → HoldsMore origin more_receipts all_receipts → HoldsMore origin seen all_seen → HoldsMore origin more_seen all_seen
     → more_receipts ≡ place_receipts → more_seen ≡ place
     → AreLeft origin receipts seen sessions → IsSessionAt origin place place_receipts last → AreLeft origin all_receipts all_seen (sessions ++ last ∷ [])
 left_with origin receipts more_receipts all_receipts seen more_seen all_seen place_receipts place sessions last had more had_seen more_seen_in same known left is =
-    All-push (λ (one : Standing). HaveReceipts origin all_receipts one.durable × IsPrefix one.state.known (known_to all_seen)) sessions last
+    All-push (λ (one : SessionStanding). HaveReceipts origin all_receipts one.durable × IsPrefix one.state.known (known_to all_seen)) sessions last
     (λ k d lt. (had.0 _ ((left k d lt).0), prefix_trans _ _ _ ((left k d lt).1) had_seen.1)) (
       more.0 _ (subst (λ (f : Option Beginning). HaveReceipts origin f last.durable) (sym same) is.durable),
       rw is.known (subst (λ (f : Option Beginning). IsPrefix (known_to f) (known_to all_seen)) known more_seen_in.1),
     )
 
 -- what was told is in the closed history, and what was seen was shown
-pub kept_of : (origin : Origin) (whole shown : Beginning) (receipts seen : Option Beginning) (last : Standing) → whole.origin ≡ origin
+pub kept_of : (origin : Origin) (whole shown : Beginning) (receipts seen : Option Beginning) (last : SessionStanding) → whole.origin ≡ origin
     → IfSome receipts (λ front. IsPrefix front.groups whole.groups × (front.acknowledged ≤ whole.acknowledged)) → IsPrefix (known_to seen) shown.groups
-    → HaveReceipts origin receipts last.durable × IsPrefix last.state.known (known_to seen) → IsKept whole shown last
+    → HaveReceipts origin receipts last.durable × IsPrefix last.state.known (known_to seen) → IsSessionKept whole shown last
 kept_of origin whole shown receipts seen last same holds was_shown has =
-    let unseen : Standing = record { left = []; told = []; durable = last.durable; group = None; state = new_state } in
+    let unseen : SessionStanding = record { left = []; told = []; durable = last.durable; group = None; state = new_state } in
     let receipted = kept_in origin whole shown None receipts unseen same holds (shown.groups, refl) (record { known = refl; durable = has.0 }) in
     record {
       durable = receipted.durable;
       known = λ kept keeps. prefix_trans last.state.known shown.groups kept (prefix_trans last.state.known (known_to seen) shown.groups has.1 was_shown) keeps.shown_too;
     }
 
-pub all_kept : (origin : Origin) (whole shown : Beginning) (receipts seen : Option Beginning) (sessions : List Standing) → whole.origin ≡ origin
+pub all_kept : (origin : Origin) (whole shown : Beginning) (receipts seen : Option Beginning) (sessions : List SessionStanding) → whole.origin ≡ origin
     → IfSome receipts (λ front. IsPrefix front.groups whole.groups × (front.acknowledged ≤ whole.acknowledged)) → IsPrefix (known_to seen) shown.groups
-    → AreLeft origin receipts seen sessions → All (IsKept whole shown) sessions
+    → AreLeft origin receipts seen sessions → All (IsSessionKept whole shown) sessions
 all_kept origin whole shown receipts seen sessions same holds was_shown left = λ k d lt. kept_of origin whole shown receipts seen (get_or sessions k d) same holds was_shown (left k d lt)

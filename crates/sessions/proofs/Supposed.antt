@@ -28,9 +28,9 @@ use Rattle.printing.specs.Printed.{refusal_line}
 use Rattle.printing.specs.Writers.{Puts}
 use Rattle.printing.specs.declared.failed.Failed.{Failed}
 use Rattle.printing.specs.declared.writer.CountedWriter.{CountedWriter}
-use Rattle.suppositions.specs.Supposing.{Supposition, Supposes, IsUnanswered}
+use Rattle.suppositions.specs.Supposing.{Supposition, Supposes, IsSuppositionUnanswered}
 use Rattle.session_lines.specs.declared.drafts.Draft.{Draft}
-use Rattle.session_lines.specs.Drafts.{Drafted, IsDraft, IsWhole, fault_of}
+use Rattle.session_lines.specs.Drafts.{Drafted, IsDraft, IsWhole, draft_fault_of}
 use Rattle.session_lines.specs.Tables.{pairs_of}
 use Rattle.sessions.specs.declared.queries.finding.Heading.TheVariants.{Supposed as of_supposed}
 use Rattle.sessions.specs.declared.session.sessions.Purpose.TheVariants.{ToSuppose}
@@ -38,10 +38,10 @@ use Rattle.sessions.specs.declared.session.sessions.Session.{Session}
 use Rattle.session_lines.specs.Copying.{Copying, no_copying}
 use Rattle.sessions.specs.Headings.{supposed_line, untold_lines}
 use Rattle.sessions.specs.Nearby.{near_lines}
-use Rattle.sessions.specs.Saying.{EndsSo, Tells, state_of}
+use Rattle.sessions.specs.Saying.{EndsSo, Tells, session_state_of}
 use Rattle.sessions.specs.Supposing.{SupposesAfter, IsNearIn, IsUnsupposed, IsTableIn, IsReplyIn, supposed_or_refusal, suppose_line}
 use Rattle.sessions.specs.Told.{known_to}
-use Rattle.sessions.specs.Turns.{IsSupposedEnd, Leaves, SessionState, fault_number}
+use Rattle.sessions.specs.Turns.{IsSupposedEnd, LeavesSession, SessionState, fault_number}
 use Rattle.sessions.proofs.Said.{tells_text}
 
 -- ---- what is made of a view
@@ -101,7 +101,7 @@ module _ (net : Net) where
 
 -- for what the replies to all pairs of nodes are not told
 pub untold_pairs : (net : Net) (sources targets : List ℕ) (pairs : List (ℕ × ℕ)) (refusal : Refusal) → All (IsNode net) sources → All (IsNode net) targets → pairs ≡ pairs_of sources targets → IsUntold (are_pairs net pairs) refusal
-    → IsUnanswered (All (IsNode net) (sources ++ targets)) refusal
+    → IsSuppositionUnanswered (All (IsNode net) (sources ++ targets)) refusal
 untold_pairs net sources targets pairs refusal nodes all is (inl none) =
     absurd (true≢false (sym (pairs_between net sources targets nodes all) ∙ (ap (are_pairs net) (sym is) ∙ none.0)))
 untold_pairs net sources targets pairs refusal nodes all is (inr memory) = inr (memory.1, All-append (IsNode net) sources targets nodes all)
@@ -115,7 +115,7 @@ found_table supposed sources targets version pairs replies is there pairs_are ri
   ap (λ (v : ℕ). supposed_line v ++ pair_lines pairs replies) is ∙ ap (λ (ps : List (ℕ × ℕ)). supposed_line supposed.version ++ pair_lines ps replies) pairs_are,
 )
 
-pub found_no_table : (supposed : Supposition) (sources targets : List ℕ) (version : ℕ) (refusal : Refusal) → version ≡ supposed.version → IsUnanswered (All (IsNode supposed.network) (sources ++ targets)) refusal
+pub found_no_table : (supposed : Supposition) (sources targets : List ℕ) (version : ℕ) (refusal : Refusal) → version ≡ supposed.version → IsSuppositionUnanswered (All (IsNode supposed.network) (sources ++ targets)) refusal
     → IsTableIn supposed sources targets (untold_lines (of_supposed version) refusal)
 found_no_table supposed sources targets version refusal is cause = inr (refusal, cause, ap (λ (v : ℕ). untold_lines (of_supposed v) refusal) is)
 
@@ -124,20 +124,20 @@ module _ (copying : Copying) (origin : Origin) (was is : SessionState) (kept : D
   end_so : (fault found : Option Code) (group : Group) (supposed : Option Supposition) (told : List ℕ) → fault ≡ found → IsSupposedEnd origin is.known found group supposed told → IsSupposedEnd origin is.known fault group supposed told
   end_so fault found group supposed told e so = rw e so
 
-  fault_end : (code : Code) → ((draft : Drafted) → IsDraft draft kept → fault_of draft ≡ Some code) → Leaves None was is []
+  fault_end : (code : Code) → ((draft : Drafted) → IsDraft draft kept → draft_fault_of draft ≡ Some code) → LeavesSession None was is []
       → EndsSo copying origin ToSuppose kept was is (refusal_line (fault_number code)) []
   fault_end code fault leaves draft drafted =
       let none = leaves.supposed_is in
-      (end_so (fault_of draft) (Some code) draft.commands is.supposed (refusal_line (fault_number code)) (fault draft drafted) (none, refl), record { last = leaves.last; supposed_is = refl; none_durable = refl })
+      (end_so (draft_fault_of draft) (Some code) draft.commands is.supposed (refusal_line (fault_number code)) (fault draft drafted) (none, refl), record { last = leaves.last; supposed_is = refl; none_durable = refl })
 
   refused_so : (group : Group) (supposed : Option Supposition) (refusal : Refusal) → supposed ≡ None → IsUnsupposed origin is.known group refusal
       → IsSupposedEnd origin is.known None group supposed (refusal_line (number_of refusal))
   refused_so group supposed refusal none cause = rw none (refusal, cause, refl)
 
-  refused_end : (refusal : Refusal) → ((draft : Drafted) → IsDraft draft kept → (fault_of draft ≡ None) × IsUnsupposed origin is.known draft.commands refusal) → Leaves None was is []
+  refused_end : (refusal : Refusal) → ((draft : Drafted) → IsDraft draft kept → (draft_fault_of draft ≡ None) × IsUnsupposed origin is.known draft.commands refusal) → LeavesSession None was is []
       → EndsSo copying origin ToSuppose kept was is (refusal_line (number_of refusal)) []
   refused_end refusal cause leaves draft drafted = (
-    end_so (fault_of draft) None draft.commands is.supposed (refusal_line (number_of refusal)) (cause draft drafted).0 (refused_so draft.commands is.supposed refusal leaves.supposed_is (cause draft drafted).1),
+    end_so (draft_fault_of draft) None draft.commands is.supposed (refusal_line (number_of refusal)) (cause draft drafted).0 (refused_so draft.commands is.supposed refusal leaves.supposed_is (cause draft drafted).1),
     record { last = leaves.last; supposed_is = refl; none_durable = refl },
   )
 
@@ -145,39 +145,39 @@ module _ (copying : Copying) (origin : Origin) (was is : SessionState) (kept : D
       → IsSupposedEnd origin is.known None group supposed (suppose_line version)
   supposed_so group supposed made version some version_is supposes = rw some (supposes, ap suppose_line version_is)
 
-  supposed_end : (made : Supposition) (version : ℕ) → ((draft : Drafted) → IsDraft draft kept → (fault_of draft ≡ None) × SupposesAfter origin is.known draft.commands made) → version ≡ made.version
-      → Leaves (Some made) was is [] → EndsSo copying origin ToSuppose kept was is (suppose_line version) []
+  supposed_end : (made : Supposition) (version : ℕ) → ((draft : Drafted) → IsDraft draft kept → (draft_fault_of draft ≡ None) × SupposesAfter origin is.known draft.commands made) → version ≡ made.version
+      → LeavesSession (Some made) was is [] → EndsSo copying origin ToSuppose kept was is (suppose_line version) []
   supposed_end made version supposes version_is leaves draft drafted = (
-    end_so (fault_of draft) None draft.commands is.supposed (suppose_line version) (supposes draft drafted).0 (supposed_so draft.commands is.supposed made version leaves.supposed_is version_is (supposes draft drafted).1),
+    end_so (draft_fault_of draft) None draft.commands is.supposed (suppose_line version) (supposes draft drafted).0 (supposed_so draft.commands is.supposed made version leaves.supposed_is version_is (supposes draft drafted).1),
     record { last = leaves.last; supposed_is = refl; none_durable = refl },
   )
 
 -- the same of a session
 module _ {N : Type 0} {n : Ghosts N} {W X : Type 0} (contents : W → Option (List ℕ)) (origin : Origin) (old new : Session N n) (kept : Draft) (result : Result X Failed) (before after : CountedWriter W) (receipts : new.receipts ≡ old.receipts)
     (last : new.last ≡ old.last) where
-  pub tells_fault : (code : Code) → new.supposed ≡ None → ((draft : Drafted) → IsDraft draft kept → fault_of draft ≡ Some code) → Puts contents (refusal_line (fault_number code)) result before after
+  pub tells_fault : (code : Code) → new.supposed ≡ None → ((draft : Drafted) → IsDraft draft kept → draft_fault_of draft ≡ Some code) → Puts contents (refusal_line (fault_number code)) result before after
       → OnOk result (Tells (EndsSo no_copying origin ToSuppose kept) origin old new contents before after)
   tells_fault code none fault puts =
       tells_text contents (refusal_line (fault_number code)) (EndsSo no_copying origin ToSuppose kept) origin old new result before after receipts
-      (fault_end no_copying origin (state_of old) (state_of new) kept code fault (record { last = last; supposed_is = none; none_durable = refl })) puts
+      (fault_end no_copying origin (session_state_of old) (session_state_of new) kept code fault (record { last = last; supposed_is = none; none_durable = refl })) puts
 
-  pub tells_refused : (refusal : Refusal) → new.supposed ≡ None → ((draft : Drafted) → IsDraft draft kept → (fault_of draft ≡ None) × IsUnsupposed origin (known_to new.place) draft.commands refusal)
+  pub tells_refused : (refusal : Refusal) → new.supposed ≡ None → ((draft : Drafted) → IsDraft draft kept → (draft_fault_of draft ≡ None) × IsUnsupposed origin (known_to new.place) draft.commands refusal)
       → Puts contents (refusal_line (number_of refusal)) result before after → OnOk result (Tells (EndsSo no_copying origin ToSuppose kept) origin old new contents before after)
   tells_refused refusal none cause puts =
       tells_text contents (refusal_line (number_of refusal)) (EndsSo no_copying origin ToSuppose kept) origin old new result before after receipts
-      (refused_end no_copying origin (state_of old) (state_of new) kept refusal cause (record { last = last; supposed_is = none; none_durable = refl })) puts
+      (refused_end no_copying origin (session_state_of old) (session_state_of new) kept refusal cause (record { last = last; supposed_is = none; none_durable = refl })) puts
 
   pub tells_supposed : (made : Supposition) (version : ℕ) → new.supposed ≡ Some made → version ≡ made.version
-      → ((draft : Drafted) → IsDraft draft kept → (fault_of draft ≡ None) × SupposesAfter origin (known_to new.place) draft.commands made) → Puts contents (suppose_line version) result before after
+      → ((draft : Drafted) → IsDraft draft kept → (draft_fault_of draft ≡ None) × SupposesAfter origin (known_to new.place) draft.commands made) → Puts contents (suppose_line version) result before after
       → OnOk result (Tells (EndsSo no_copying origin ToSuppose kept) origin old new contents before after)
   tells_supposed made version some version_is supposes puts =
       tells_text contents (suppose_line version) (EndsSo no_copying origin ToSuppose kept) origin old new result before after receipts
-      (supposed_end no_copying origin (state_of old) (state_of new) kept made version supposes version_is (record { last = last; supposed_is = some; none_durable = refl })) puts
+      (supposed_end no_copying origin (session_state_of old) (session_state_of new) kept made version supposes version_is (record { last = last; supposed_is = some; none_durable = refl })) puts
 
 -- a group that was supposed, or was not, is that of the lines
-pub of_lines : (origin : Origin) (known : List Group) (draft : Drafted) (group : Group) (made : Supposition) → IsWhole draft group → SupposesAfter origin known group made → (fault_of draft ≡ None) × SupposesAfter origin known draft.commands made
+pub of_lines : (origin : Origin) (known : List Group) (draft : Drafted) (group : Group) (made : Supposition) → IsWhole draft group → SupposesAfter origin known group made → (draft_fault_of draft ≡ None) × SupposesAfter origin known draft.commands made
 of_lines origin known draft group made whole supposes = (whole.0, subst (λ (g : Group). SupposesAfter origin known g made) whole.1 supposes)
 
 pub not_of_lines : (origin : Origin) (known : List Group) (draft : Drafted) (group : Group) (refusal : Refusal) → IsWhole draft group → IsUnsupposed origin known group refusal
-    → (fault_of draft ≡ None) × IsUnsupposed origin known draft.commands refusal
+    → (draft_fault_of draft ≡ None) × IsUnsupposed origin known draft.commands refusal
 not_of_lines origin known draft group refusal whole cause = (whole.0, subst (λ (g : Group). IsUnsupposed origin known g refusal) whole.1 cause)

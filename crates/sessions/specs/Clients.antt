@@ -25,7 +25,7 @@ AreAnswered copying terms origin remaining contents reader read_on writer writte
     (IsSessionAt origin served.1.place served.1.receipts) served.0)
 
 -- Its lines were answered in their order, as far as its session came; and the counts, from 0 on, tell whether the reader or the writer failed.
-pub record IsAnswered {I W N : Type 0} {n : Ghosts N} (copying : Copying) (last_line : LastLine) (origin : Origin) (remaining : I → Option (List ℕ)) (contents : W → Option (List ℕ)) (reader read_on : I) (writer written_on : W) (served : Finished N n) : Type 0 where
+pub record IsClientAnswered {I W N : Type 0} {n : Ghosts N} (copying : Copying) (last_line : LastLine) (origin : Origin) (remaining : I → Option (List ℕ)) (contents : W → Option (List ℕ)) (reader read_on : I) (writer written_on : W) (served : Finished N n) : Type 0 where
   pub answered : IfSome (remaining reader) (λ text. Serves copying last_line origin text (remaining read_on) (contents writer) (contents written_on) (IsSessionAt origin served.session.place served.session.receipts) served.outcome)
   pub reads : CountsRead 0 served.failed_reads served.outcome
   pub writes : CountsWrites 0 served.failed_writes served.outcome
@@ -34,9 +34,9 @@ pub record IsAnswered {I W N : Type 0} {n : Ghosts N} (copying : Copying) (last_
 -- the same on these terms
 abbrev pub IsServed : {C I W N : Type 0} {n : Ghosts N} → (C → Copying) → Terms C → Origin → (I → Option (List ℕ)) → (W → Option (List ℕ)) → I → I → W → W → Finished N n → Type 0
 IsServed copying terms origin remaining contents reader read_on writer written_on served =
-    IsAnswered (copying terms.copies.now) terms.last_line origin remaining contents reader read_on writer written_on served
+    IsClientAnswered (copying terms.copies.now) terms.last_line origin remaining contents reader read_on writer written_on served
 
 -- the same at a door, whose sessions may ask alone: by pipes a client may be cut off in a line, which is not carried out
 abbrev pub IsAnsweredAt : {I W N : Type 0} {n : Ghosts N} → Bool → Copying → Origin → (I → Option (List ℕ)) → (W → Option (List ℕ)) → I → I → W → W → Finished N n → Type 0
 IsAnsweredAt asks_alone copying origin remaining contents reader read_on writer written_on served =
-    IsAnswered (copying_at asks_alone copying) Dropped origin remaining contents reader read_on writer written_on served
+    IsClientAnswered (copying_at asks_alone copying) Dropped origin remaining contents reader read_on writer written_on served

@@ -17,11 +17,11 @@ use Rattle.printing.specs.declared.writer.CountedWriter.{CountedWriter}
 use Rattle.session_lines.specs.declared.drafts.Draft.{Draft}
 use Rattle.session_lines.specs.declared.lines.Line.{Line}
 use Rattle.session_lines.specs.Drafts.{Drafted, IsDraft}
-use Rattle.sessions.specs.declared.session.sessions.OpenGroup.{OpenGroup}
+use Rattle.sessions.specs.declared.session.sessions.SessionGroup.{SessionGroup}
 use Rattle.sessions.specs.declared.session.sessions.Session.{Session}
 use Rattle.session_lines.specs.Copying.{Copying}
 use Rattle.sessions.specs.Told.{HasMore, known_to}
-use Rattle.sessions.specs.Turns.{Grouped, SessionState, IsAnswer, IsEnd, next_group}
+use Rattle.sessions.specs.Turns.{Grouped, SessionState, IsSessionAnswer, IsEnd, next_group}
 use Rattle.sessions.specs.declared.session.sessions.Purpose.{Purpose}
 
 -- It stays the same writer, and nothing but a failed write is told, 12, which is counted; where no write fails bytes are written that are as this says, and
@@ -33,8 +33,8 @@ pub record PutsSo {W X : Type 0} (contents : W → Option (List ℕ)) (Is : List
   pub same : IsSameWriter before after
 
 -- how a session is
-abbrev pub state_of : {N : Type 0} {n : Ghosts N} → Session N n → SessionState
-state_of session = record { last = session.last; known = known_to session.place; supposed = session.supposed }
+abbrev pub session_state_of : {N : Type 0} {n : Ghosts N} → Session N n → SessionState
+session_state_of session = record { last = session.last; known = known_to session.place; supposed = session.supposed }
 
 -- But for what it has seen and was told of, which begins with what it had, the session is as it was.
 pub record Stays {N : Type 0} {n : Ghosts N} (old new : Session N n) : Type 0 where
@@ -45,7 +45,7 @@ pub record Stays {N : Type 0} {n : Ghosts N} (old new : Session N n) : Type 0 wh
   pub begins : IsPrefix (known_to old.place) (known_to new.place)
 
 -- the group that lines are in is kept so
-abbrev pub IsKeptGroup : Option Grouped → Option OpenGroup → Type 0
+abbrev pub IsKeptGroup : Option Grouped → Option SessionGroup → Type 0
 IsKeptGroup None None = ⊤
 IsKeptGroup None (Some kept) = ⊥
 IsKeptGroup (Some group) None = ⊥
@@ -56,7 +56,7 @@ IsKeptGroup (Some group) (Some kept) = (group.purpose ≡ kept.purpose) × IsDra
 pub record Tells {N : Type 0} {n : Ghosts N} {W : Type 0} (Is : SessionState → SessionState → List ℕ → List Ticket → Type 0) (origin : Origin) (old new : Session N n) (contents : W → Option (List ℕ)) (before after : CountedWriter W) : Type 0 where
   pub told : List ℕ
   pub durable : List Ticket
-  pub so : Is (state_of old) (state_of new) told durable
+  pub so : Is (session_state_of old) (session_state_of new) told durable
   pub kept : HasMore origin old.receipts new.receipts durable
   pub written : Appends (contents (writer_of before)) (contents (writer_of after)) told
 
@@ -65,10 +65,10 @@ abbrev pub EndsSo : Copying → Origin → Purpose → Draft → SessionState �
 EndsSo copying origin purpose kept was is told durable = (draft : Drafted) → IsDraft draft kept → IsEnd copying origin purpose draft was is told durable
 
 -- the answer to a line within the group that is kept so, or outside of groups, and the group that is kept behind it
-abbrev pub AnswersSo : Copying → Origin → Line → Option OpenGroup → Option OpenGroup → SessionState → SessionState → List ℕ → List Ticket → Type 0
+abbrev pub AnswersSo : Copying → Origin → Line → Option SessionGroup → Option SessionGroup → SessionState → SessionState → List ℕ → List Ticket → Type 0
 AnswersSo copying origin line kept next was is told durable =
-    (group : Option Grouped) → IsKeptGroup group kept → IsAnswer copying origin group line was is told durable × IsKeptGroup (next_group group line) next
+    (group : Option Grouped) → IsKeptGroup group kept → IsSessionAnswer copying origin group line was is told durable × IsKeptGroup (next_group group line) next
 
 -- what a session tells to a line, and how it goes on
-abbrev pub Says : {N : Type 0} {n : Ghosts N} {W : Type 0} → Copying → Origin → Line → Session N n → Session N n → (W → Option (List ℕ)) → CountedWriter W → CountedWriter W → Type 0
-Says copying origin line old new contents before after = Tells (AnswersSo copying origin line old.group new.group) origin old new contents before after
+abbrev pub SaysToLine : {N : Type 0} {n : Ghosts N} {W : Type 0} → Copying → Origin → Line → Session N n → Session N n → (W → Option (List ℕ)) → CountedWriter W → CountedWriter W → Type 0
+SaysToLine copying origin line old new contents before after = Tells (AnswersSo copying origin line old.group new.group) origin old new contents before after

@@ -9,8 +9,8 @@ use Rattle.desk.specs.declared.handles.states.Working.TheVariants.{On, Ended, Br
 use Rattle.printing.specs.Printed.{refusal_line}
 
 -- a word between blanks, and a number
-abbrev pub named : List ℕ → ℕ → List ℕ
-named word number = word ++ decimal number
+abbrev pub named_number : List ℕ → ℕ → List ℕ
+named_number word number = word ++ decimal number
 
 -- whether a thread goes on
 abbrev pub working_word : Working → List ℕ
@@ -20,19 +20,19 @@ working_word Broken = codes "broken"
 
 -- how far its versions are
 abbrev pub versions_part : DeskState → List ℕ
-versions_part state = named (codes "state shown ") state.shown ++ named (codes " durable ") state.durable
+versions_part state = named_number (codes "state shown ") state.shown ++ named_number (codes " durable ") state.durable
 
 -- what waits
 abbrev pub waiting_part : DeskState → List ℕ
-waiting_part state = named (codes " accepted ") state.accepted ++ named (codes " pending ") state.pending
+waiting_part state = named_number (codes " accepted ") state.accepted ++ named_number (codes " pending ") state.pending
 
 -- how full the journal is
 abbrev pub journal_part : DeskState → List ℕ
-journal_part state = named (codes " unchecked ") state.unchecked ++ named (codes " pages ") state.pages
+journal_part state = named_number (codes " unchecked ") state.unchecked ++ named_number (codes " pages ") state.pages
 
 -- its landmarks, and how many commands it may still take
 abbrev pub life_part : DeskState → List ℕ
-life_part state = named (codes " landmarks ") state.landmarks ++ named (codes " readers ") state.readers ++ named (codes " left ") state.left
+life_part state = named_number (codes " landmarks ") state.landmarks ++ named_number (codes " readers ") state.readers ++ named_number (codes " left ") state.left
 
 -- its threads
 abbrev pub threads_part : DeskState → List ℕ
@@ -40,11 +40,11 @@ threads_part state = (codes " flusher " ++ working_word state.flusher) ++ (codes
 
 -- its arcs, and its room for them
 abbrev pub arcs_part : DeskState → List ℕ
-arcs_part state = named (codes " arcs ") state.arcs ++ named (codes " room ") state.room
+arcs_part state = named_number (codes " arcs ") state.arcs ++ named_number (codes " room ") state.room
 
 -- its clients and pairs of pipes, how many wait, and for how long it has served
 abbrev pub served_part : DeskState → List ℕ
-served_part state = named (codes " clients ") state.clients ++ named (codes " pairs ") state.pairs ++ named (codes " waiting ") state.waiting ++ named (codes " uptime ") state.uptime
+served_part state = named_number (codes " clients ") state.clients ++ named_number (codes " pairs ") state.pairs ++ named_number (codes " waiting ") state.waiting ++ named_number (codes " uptime ") state.uptime
 
 -- `state shown V durable D accepted A pending P unchecked U pages J landmarks L readers R left C flusher F builder B arcs A room M clients N pairs Q waiting W uptime S`
 abbrev pub state_line : DeskState → List ℕ

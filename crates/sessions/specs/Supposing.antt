@@ -26,7 +26,7 @@ use Rattle.rows.specs.Nearby.{node_of, IsNear, IsUntold}
 use Rattle.printing.specs.Nodes.{pair_lines}
 use Rattle.printing.specs.Printed.{answer_line, refusal_line}
 use Rattle.printing.specs.Replied.{number_line}
-use Rattle.suppositions.specs.Supposing.{Supposition, Supposes, IsUnanswered}
+use Rattle.suppositions.specs.Supposing.{Supposition, Supposes, IsSuppositionUnanswered}
 use Rattle.sessions.specs.declared.queries.finding.Heading.TheVariants.{Supposed}
 use Rattle.sessions.specs.Headings.{supposed_line, untold_lines}
 use Rattle.sessions.specs.Nearby.{near_lines}
@@ -87,4 +87,4 @@ abbrev pub IsTableIn : Supposition → List ℕ → List ℕ → List ℕ → Ty
 IsTableIn supposed sources targets told =
     ((replies : List Reply) × All (IsNode supposed.network) (sources ++ targets) × AreRight supposed.network (pairs_of sources targets) replies
     × (told ≡ supposed_line supposed.version ++ pair_lines (pairs_of sources targets) replies))
-    ⊎ ((refusal : Refusal) × IsUnanswered (All (IsNode supposed.network) (sources ++ targets)) refusal × (told ≡ untold_lines (Supposed supposed.version) refusal))
+    ⊎ ((refusal : Refusal) × IsSuppositionUnanswered (All (IsNode supposed.network) (sources ++ targets)) refusal × (told ≡ untold_lines (Supposed supposed.version) refusal))

@@ -41,9 +41,9 @@ HaveReceipts origin None tickets = tickets ≡ []
 HaveReceipts origin (Some front) tickets = (front.origin ≡ origin) × All (IsAcknowledgedIn front) tickets
 
 -- each of these groups with its number behind this version
-abbrev pub numbered : ℕ → List Group → List Ticket
-numbered version [] = []
-numbered version (group ∷ groups) = record { number = version + 1; group = group } ∷ numbered (version + 1) groups
+abbrev pub numbered_groups : ℕ → List Group → List Ticket
+numbered_groups version [] = []
+numbered_groups version (group ∷ groups) = record { number = version + 1; group = group } ∷ numbered_groups (version + 1) groups
 
 -- a beginning that has some groups goes on to one that has these too
 abbrev pub HasMore : Origin → Option Beginning → Option Beginning → List Ticket → Type 0
@@ -52,7 +52,7 @@ HasMore origin old new durable = (tickets : List Ticket) → HaveReceipts origin
 -- the same of all groups that are acknowledged in this beginning
 abbrev pub HasAllOf : Beginning → Option Beginning → Option Beginning → Type 0
 HasAllOf front old new =
-    (groups : List Group) → IsPrefix groups front.groups → front.origin.version + length groups ≤ front.acknowledged → HasMore front.origin old new (numbered front.origin.version groups)
+    (groups : List Group) → IsPrefix groups front.groups → front.origin.version + length groups ≤ front.acknowledged → HasMore front.origin old new (numbered_groups front.origin.version groups)
 
 -- the session has a receipt of this desk for the group, with this number
 abbrev pub HasReceipt : Origin → Option Accepted → ℕ → Group → Type 0
@@ -69,7 +69,7 @@ IsUnsettled origin other group refusal = ⊥
 pub record RestsOn (origin : Origin) (group : Group) (refusal : Refusal) (durable : List Ticket) : Type 0 where
   pub groups : List Group
   pub refused : IsRefusedAfter origin groups group refusal
-  pub all : durable ≡ numbered origin.version groups
+  pub all : durable ≡ numbered_groups origin.version groups
 
 -- The machine refuses a group after groups that are not settled for this: they are lost (45), or the desk has ended (61).
 pub record RestsOnUnsettled (origin : Origin) (group : Group) (refusal : Refusal) : Type 0 where
@@ -83,14 +83,14 @@ abbrev pub IsTurnedDown : Origin → Group → Refusal → List Ticket → Type 
 IsTurnedDown origin group refusal durable = RestsOn origin group refusal durable ⊎ ((RestsOnUnsettled origin group refusal ⊎ (refusal ≡ Closed)) × (durable ≡ []))
 
 -- the same of a group that was not accepted, or was and is not settled (45, 61)
-abbrev pub IsRefusedFor : Origin → Option Accepted → Option Accepted → Group → Refusal → List Ticket → Type 0
-IsRefusedFor origin before last group refusal durable =
+abbrev pub IsGroupRefusedFor : Origin → Option Accepted → Option Accepted → Group → Refusal → List Ticket → Type 0
+IsGroupRefusedFor origin before last group refusal durable =
     ((last ≡ before) × IsTurnedDown origin group refusal durable) ⊎ (IsUnsettled origin last group refusal × (durable ≡ []))
 
 -- what a group is told, and what that tells to be durable: its number, of which the session has a receipt; or for what it is refused
 abbrev pub Settles : Origin → Option Accepted → Option Accepted → Group → Replied → List Ticket → Type 0
 Settles origin before last group (Durable number) durable = HasReceipt origin last number group × (durable ≡ record { number = number; group = group } ∷ [])
-Settles origin before last group (Refused refusal) durable = IsRefusedFor origin before last group refusal durable
+Settles origin before last group (Refused refusal) durable = IsGroupRefusedFor origin before last group refusal durable
 Settles origin before last group other durable = ⊥
 
 -- A group is carried out and told this. The beginning of the history that the session has goes on to one with what is told to be durable.
@@ -134,8 +134,8 @@ pub record LooksAfter (origin : Origin) (groups : List Group) (look : Look) (tol
   pub told_is : told ≡ look_lines network (origin.version + length groups) look
 
 -- or that there is no view to look at (60, 11, 61)
-abbrev pub IsLooked : Origin → List Group → Look → List ℕ → Type 0
-IsLooked origin groups look told = LooksAfter origin groups look told ⊎ ((refusal : Refusal) × IsUnsighted groups refusal × (told ≡ refusal_line (number_of refusal)))
+abbrev pub IsLookTold : Origin → List Group → Look → List ℕ → Type 0
+IsLookTold origin groups look told = LooksAfter origin groups look told ⊎ ((refusal : Refusal) × IsUnsighted groups refusal × (told ≡ refusal_line (number_of refusal)))
 
 -- `copied V`
 abbrev pub copied_line : ℕ → List ℕ

@@ -1,7 +1,7 @@
 -- The same legs for narrower buckets, parted as they were or all of a node's in its light part.
 use Rattle.std.proofs.Common.{◌≡◌, ◌∙◌, ◌⊎◌, ℕ, zero, suc, ◌+◌, ◌-◌, ◌*◌, ◌≤◌, ◌<◌, Bool, true, false, List, [], ◌∷◌, ◌++◌, get_or, Contains, refl, sym, subst, ap₂, arith, append-nil, ⊎_elim}
 use Rattle.std.proofs.lemmas.List.Elements.{Contains-append_left, Contains-append_right, Contains-append_cases}
-use Rattle.snapshot.specs.Groups.{Groups, IsGrouped, IsNarrowed, all_legs, joined, legs_of, parts_of, pieces}
+use Rattle.snapshot.specs.Groups.{Groups, IsGrouped, IsNarrowed, all_legs, joined_parts, legs_of, parts_of, pieces}
 use Rattle.snapshot.specs.declared.legs.Leg.{Leg}
 use Rattle.snapshot.specs.declared.legs.Part.{Part}
 use Rattle.snapshot.specs.declared.legs.Part.TheVariants.{Light, Heavy}
@@ -29,7 +29,7 @@ LegOf-wide wide narrow is u leg part c = of_all wide u leg (subst (λ (l : List 
 pub LegOf-narrow : (wide narrow : Groups) → IsNarrowed wide narrow → (u : ℕ) (leg : Leg) (part : Part) → Contains (legs_of wide part u) leg → LegOf narrow u leg
 LegOf-narrow wide narrow is u leg part c = of_all narrow u leg (subst (λ (l : List Leg). Contains l leg) (sym (is.legs u)) (among_all wide u leg part c))
 
-pub light_at : (parts : List (List Leg)) (p u : ℕ) → p ≡ 2 * u → get_or (joined parts) p [] ≡ get_or parts p [] ++ get_or parts (p + 1) []
+pub light_at : (parts : List (List Leg)) (p u : ℕ) → p ≡ 2 * u → get_or (joined_parts parts) p [] ≡ get_or parts p [] ++ get_or parts (p + 1) []
 light_at [] p u e = refl
 light_at (light ∷ []) zero u e = sym (append-nil light)
 light_at (light ∷ []) (suc p) u e = let next : suc p + 1 ≡ suc (p + 1) = omega arith in rw next refl
@@ -37,7 +37,7 @@ light_at (light ∷ (heavy ∷ parts)) zero u e = refl
 light_at (light ∷ (heavy ∷ parts)) (suc zero) u e = absurd (omega (arith, e))
 light_at (light ∷ (heavy ∷ parts)) (suc (suc p)) u e = let next : suc (suc p) + 1 ≡ suc (suc (p + 1)) = omega arith in rw next (light_at parts p (u - 1) (omega (arith, e)))
 
-pub heavy_at : (parts : List (List Leg)) (p u : ℕ) → p ≡ 2 * u + 1 → get_or (joined parts) p [] ≡ []
+pub heavy_at : (parts : List (List Leg)) (p u : ℕ) → p ≡ 2 * u + 1 → get_or (joined_parts parts) p [] ≡ []
 heavy_at [] p u e = refl
 heavy_at (light ∷ []) zero u e = absurd (omega (arith, e))
 heavy_at (light ∷ []) (suc p) u e = refl
@@ -49,28 +49,28 @@ abbrev pub with_parts : ℕ → ℕ → ℕ → List (List Leg) → Groups
 with_parts nodes delta greatest parts = record { nodes = nodes; delta = delta; greatest = greatest; parts = parts }
 
 module _ (nodes delta greatest narrow : ℕ) (parts : List (List Leg)) where
-  light_is : (u : ℕ) → legs_of (with_parts nodes narrow greatest (joined parts)) Light u ≡ legs_of (with_parts nodes delta greatest parts) Light u ++ legs_of (with_parts nodes delta greatest parts) Heavy u
+  light_is : (u : ℕ) → legs_of (with_parts nodes narrow greatest (joined_parts parts)) Light u ≡ legs_of (with_parts nodes delta greatest parts) Light u ++ legs_of (with_parts nodes delta greatest parts) Heavy u
   unfolding legs_of
   light_is u = light_at parts (2 * u) u refl
 
-  heavy_is : (u : ℕ) → legs_of (with_parts nodes narrow greatest (joined parts)) Heavy u ≡ []
+  heavy_is : (u : ℕ) → legs_of (with_parts nodes narrow greatest (joined_parts parts)) Heavy u ≡ []
   unfolding legs_of
   heavy_is u = heavy_at parts (2 * u + 1) u refl
 
-  none_heavy : (u : ℕ) (leg : Leg) → Contains (legs_of (with_parts nodes narrow greatest (joined parts)) Heavy u) leg → ⊥
+  none_heavy : (u : ℕ) (leg : Leg) → Contains (legs_of (with_parts nodes narrow greatest (joined_parts parts)) Heavy u) leg → ⊥
   none_heavy u leg c = let none : Contains [] leg = subst (λ (l : List Leg). Contains l leg) (heavy_is u) c in let absurdity : ⊥ = omega (arith, none.1) in absurdity
 
-  same_legs : (u : ℕ) → all_legs (with_parts nodes narrow greatest (joined parts)) u ≡ all_legs (with_parts nodes delta greatest parts) u
+  same_legs : (u : ℕ) → all_legs (with_parts nodes narrow greatest (joined_parts parts)) u ≡ all_legs (with_parts nodes delta greatest parts) u
   same_legs u = ap₂ (λ (a b : List Leg). a ++ b) (light_is u) (heavy_is u) ∙ append-nil (all_legs (with_parts nodes delta greatest parts) u)
 
-  was : (part : Part) (u : ℕ) (leg : Leg) → Contains (legs_of (with_parts nodes narrow greatest (joined parts)) part u) leg → LegOf (with_parts nodes delta greatest parts) u leg
-  was part u leg c = of_all (with_parts nodes delta greatest parts) u leg (subst (λ (l : List Leg). Contains l leg) (same_legs u) (among_all (with_parts nodes narrow greatest (joined parts)) u leg part c))
+  was : (part : Part) (u : ℕ) (leg : Leg) → Contains (legs_of (with_parts nodes narrow greatest (joined_parts parts)) part u) leg → LegOf (with_parts nodes delta greatest parts) u leg
+  was part u leg c = of_all (with_parts nodes delta greatest parts) u leg (subst (λ (l : List Leg). Contains l leg) (same_legs u) (among_all (with_parts nodes narrow greatest (joined_parts parts)) u leg part c))
 
-  none_of : IsGrouped (with_parts nodes delta greatest parts) → (u : ℕ) → ((part : Part) → legs_of (with_parts nodes delta greatest parts) part u ≡ []) → (part : Part) → legs_of (with_parts nodes narrow greatest (joined parts)) part u ≡ []
+  none_of : IsGrouped (with_parts nodes delta greatest parts) → (u : ℕ) → ((part : Part) → legs_of (with_parts nodes delta greatest parts) part u ≡ []) → (part : Part) → legs_of (with_parts nodes narrow greatest (joined_parts parts)) part u ≡ []
   none_of grouped u none Light = light_is u ∙ ap₂ (λ (a b : List Leg). a ++ b) (none Light) (none Heavy)
   none_of grouped u none Heavy = heavy_is u
 
-  pub IsGrouped-joined : IsGrouped (with_parts nodes delta greatest parts) → 1 ≤ narrow → IsGrouped (with_parts nodes narrow greatest (joined parts))
+  pub IsGrouped-joined : IsGrouped (with_parts nodes delta greatest parts) → 1 ≤ narrow → IsGrouped (with_parts nodes narrow greatest (joined_parts parts))
   IsGrouped-joined grouped positive = record {
     nodes = grouped.nodes;
     some_node = grouped.some_node;
@@ -84,7 +84,7 @@ module _ (nodes delta greatest narrow : ℕ) (parts : List (List Leg)) where
     length = λ part u leg c. let h = was part u leg c in grouped.length h.part u leg h.among;
   }
 
-  pub IsNarrowed-joined : narrow ≤ delta → IsNarrowed (with_parts nodes delta greatest parts) (with_parts nodes narrow greatest (joined parts))
+  pub IsNarrowed-joined : narrow ≤ delta → IsNarrowed (with_parts nodes delta greatest parts) (with_parts nodes narrow greatest (joined_parts parts))
   IsNarrowed-joined less = record {
     nodes = refl;
     delta = less;

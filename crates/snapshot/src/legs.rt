@@ -1,6 +1,6 @@
 ghost use Rattle.std.specs.Prelude.{◌≡◌, ◌≤◌, ◌+◌, ◌*◌};
 ghost use Rattle.snapshot.specs.Groups.{part_place};
-ghost use Rattle.snapshot.specs.Places.{ends_of, place_of};
+ghost use Rattle.snapshot.specs.Places.{part_ends_of, part_place_of};
 
 use roadnet::RoadArc;
 
@@ -34,7 +34,7 @@ pub(crate) fn part_place(part: Part, node: u32) -> usize
 /// The places where a part of a node begins and ends, where its light part has all its legs or not.
 #[inline(always)]
 pub(crate) fn part_ends(joined: bool, part: Part, node: u32) -> (usize, usize)
-    ensures ends { result ≡ ends_of joined part node }
+    ensures ends { result ≡ part_ends_of joined part node }
     ensures order { result.0 ≤ result.1 }
     ensures within { result.1 ≤ 2 * node + 2 }
 {
@@ -53,7 +53,7 @@ pub(crate) fn part_ends(joined: bool, part: Part, node: u32) -> (usize, usize)
 
 /// The place of an arc's part.
 pub(crate) fn place_of(arc: &RoadArc, delta: u32) -> usize
-    ensures { result ≡ place_of delta arc.now }
+    ensures { result ≡ part_place_of delta arc.now }
 {
     let part = if arc.length <= delta {
         Part::Light

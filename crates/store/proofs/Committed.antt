@@ -26,7 +26,7 @@ use Rattle.pages.specs.Grouping.{has_more, records_of, records_in}
 use Rattle.pages.proofs.Grouped.{length-records_in}
 use Rattle.pages.specs.Spelling.{body, entry_page, FitsRecord, MayGoOn, IsRecord, AreRecords}
 use Rattle.storefile.specs.StoreFile.{page, journal_page_at, HasNoLaterPage, HoldsNetworkTidily, StandsTidyFor}
-use Rattle.storefile.specs.Standing.{Standing, HasFitNumbers, IsBeforeOrAfter}
+use Rattle.storefile.specs.Standing.{Standing, HasFitStoreNumbers, IsBeforeOrAfter}
 use Rattle.storefile.proofs.PageBytes.{written_outside}
 use Rattle.storefile.proofs.Meaning.{IsPage, is_page, page_size, page_within, stored_more, tidy_more, before_or_after, rests}
 use Rattle.storefile.proofs.Rests.{stored_as, standing_is}
@@ -176,7 +176,7 @@ more x net commands = record { header = x.header; slot = x.slot; epoch = x.epoch
 -- these commands may be written behind what stands, and lead to this network
 pub record Follow (x : Standing) (net : Net) (commands : List (List Command)) : Type 0 where
   pub today : x.header.format ≡ Two
-  pub numbers : HasFitNumbers x.header x.epoch x.version x.next x.unchecked
+  pub numbers : HasFitStoreNumbers x.header x.epoch x.version x.next x.unchecked
   pub room : x.unchecked < x.header.journal_pages
   pub versions : x.version + length commands ≤ 2 ^ 48
   pub some : 1 ≤ length commands
@@ -189,7 +189,7 @@ module _ (old : List ℕ) (x : Standing) (net : Net) (commands : List (List Comm
   wrote : IsPage x.version x.next commands (page_body x commands)
   wrote = is_page x.version x.next commands follow.versions follow.numbers.next_to follow.each (are_records commands follow.each follow.few follow.some follow.fit)
 
-  pub numbers_more : HasFitNumbers x.header x.epoch (x.version + length commands) (x.next + 1) (x.unchecked + 1)
+  pub numbers_more : HasFitStoreNumbers x.header x.epoch (x.version + length commands) (x.next + 1) (x.unchecked + 1)
   numbers_more = record {
     header = follow.numbers.header;
     version_to = follow.versions;

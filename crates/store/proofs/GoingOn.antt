@@ -3,35 +3,35 @@ use Rattle.std.proofs.Common.{◌≡◌, ⊎_elim, ℕ, ◌+◌, ◌*◌, ◌≤
 use Rattle.std.specs.Prelude.{IfSome, option_map}
 use Rattle.std.proofs.Props.{props}
 use Rattle.std.proofs.Math.Logic.{∥∥₁_elim, ∥∥₁_map}
-use Rattle.disk.specs.Gated.{SameOutside, IsOpen, IsShut, IsOldOrShut, with_page}
+use Rattle.disk.specs.Gated.{SameOutside, IsGateOpen, IsShut, IsOldOrShut, with_page}
 use Rattle.disk.specs.Moments.{LeavesOnly}
 use Rattle.disk.proofs.Steps.{and_then, weaker}
 use Rattle.roadnet.specs.declared.commands.Command.{Command}
 use Rattle.roadnet.specs.Net.{Net, IsNetwork}
 use Rattle.pages.specs.declared.header.Header.{Header}
 use Rattle.pages.specs.declared.content.Slot.{Slot}
-use Rattle.pages.specs.Spelling.{AreFit, SpelledEntry}
+use Rattle.pages.specs.Spelling.{AreHeadNumbersFit, SpelledEntry}
 use Rattle.pages.specs.Layout.{HeadOf, other, slot_pages, page_number, page_count}
 use Rattle.storefile.specs.StoreFile.{page, is_open, is_standing, joined, journal_page_at, HoldsSlot, HoldsNetwork, StandsTidyFor}
-use Rattle.storefile.specs.Standing.{Standing, standing_of, IsStoredAs, IsTidyAt, HasFitNumbers, LeadsTo, with_other_slot}
+use Rattle.storefile.specs.Standing.{Standing, standing_of, IsStoredAs, IsTidyAt, HasFitStoreNumbers, LeadsTo, with_other_slot}
 use Rattle.storefile.proofs.JournalWrite.{leads_more}
 use Rattle.storefile.proofs.Meaning.{IsPage, is_page, page_outside, page_spells, page_stands}
 use Rattle.storefile.proofs.OtherSlot.{SameBeside, after_ends, leads_beside, slot_leads_on, slots_keep_tidy}
 use Rattle.storefile.proofs.PageBytes.{outside_pages, same_but}
 use Rattle.storefile.proofs.Rests.{stored_as, standing_is}
 use Rattle.storefile.proofs.Torn.{head_below}
-use Rattle.checkpoint.specs.Writing.{Draft, head_of, slot_at, slot_size, slot_gate, slot_page_at, HoldsPages, IsSlotShut, IsSlotWhole, IsSlotShutOrWhole}
+use Rattle.checkpoint.specs.Writing.{Draft, draft_head_of, slot_at, slot_size, slot_gate, slot_page_at, HoldsPages, IsSlotShut, IsSlotWhole, IsSlotShutOrWhole}
 use Rattle.checkpoint.proofs.SlotHeld.{holds_slot, gate_shut, while_beginning}
 use Rattle.store.specs.declared.paged.going.GoingCheckpoint.{GoingCheckpoint}
 use Rattle.store.specs.Committing.{HasTidyStanding}
-use Rattle.store.specs.Going.{FitsStore, GoesOn, with_one_more}
+use Rattle.store.specs.Going.{FitsStore, DraftGoesOn, with_one_more}
 use Rattle.store.proofs.Checkpointed.{still_stands, shut_told, shut_tidily, shut_stands, nodes_told, room_told}
 use Rattle.store.proofs.Committed.{Follow, are_records, page_body}
 
 -- ---- it begins
 
 pub begins : (content : List ℕ) (h : Header) (draft : Draft) (net : Net) (version next : ℕ) → draft.written ≡ 0 → draft.version ≡ version → draft.next_sequence ≡ next → IsNetwork net → h.arcs ≤ length net.arcs
-    → (IsOpen (slot_gate h draft.slot) content → ⊥) → GoesOn content h draft net 0 net version next
+    → (IsGateOpen (slot_gate h draft.slot) content → ⊥) → DraftGoesOn content h draft net 0 net version next
 begins content h draft net version next none same_version same_next is from closed = record {
   closed = closed;
   pages = λ i lt. absurd (omega (arith, lt, none));
@@ -69,8 +69,8 @@ module _ (old new : List ℕ) (x : Standing) (net : Net) (commands : List (List 
     outside = subst (λ (c : List ℕ). SameOutside (4096 * journal_page_at x.header x.next) 4096 old c) (sym is)
         (page_outside old x.header x.version x.next commands (page_body x commands) follow.numbers.header follow.today size wrote)
 
-    goes_on_committed : (g : GoingCheckpoint) → FitsStore x.header x.slot x.epoch x.version x.next x.unchecked g.next g.committed → GoesOn old x.header g.next g.frozen g.committed x.network x.version x.next
-        → GoesOn new x.header g.next g.frozen (g.committed + 1) net (x.version + length commands) (x.next + 1)
+    goes_on_committed : (g : GoingCheckpoint) → FitsStore x.header x.slot x.epoch x.version x.next x.unchecked g.next g.committed → DraftGoesOn old x.header g.next g.frozen g.committed x.network x.version x.next
+        → DraftGoesOn new x.header g.next g.frozen (g.committed + 1) net (x.version + length commands) (x.next + 1)
     goes_on_committed g fits goes =
         let below = head_below x.header g.next.slot in
         record {
@@ -89,16 +89,16 @@ module _ (old new : List ℕ) (x : Standing) (net : Net) (commands : List (List 
         }
 
     pub going_committed : (going : Option GoingCheckpoint) → IfSome going (λ g. FitsStore x.header x.slot x.epoch x.version x.next x.unchecked g.next g.committed)
-        → ∥ IfSome going (λ g. GoesOn old x.header g.next g.frozen g.committed x.network x.version x.next) ∥₁
-        → ∥ IfSome (option_map with_one_more going) (λ g. GoesOn new x.header g.next g.frozen g.committed net (x.version + length commands) (x.next + 1)) ∥₁
+        → ∥ IfSome going (λ g. DraftGoesOn old x.header g.next g.frozen g.committed x.network x.version x.next) ∥₁
+        → ∥ IfSome (option_map with_one_more going) (λ g. DraftGoesOn new x.header g.next g.frozen g.committed net (x.version + length commands) (x.next + 1)) ∥₁
     going_committed None fits goes = goes
     going_committed (Some g) fits goes = ∥∥₁_map goes (λ on. goes_on_committed g fits on)
 
 -- ---- a part, after which some are left
 
 pub goes_on_part : (old new : List ℕ) (h : Header) (slot : Slot) (draft : Draft) (count : ℕ) (frozen : Net) (committed : ℕ) (net : Net) (version next : ℕ) → draft.slot ≡ other slot
-    → IsSlotShut h draft.slot old new → HoldsPages (page new) h draft.slot frozen count → GoesOn old h draft frozen committed net version next
-    → GoesOn new h (record draft { written = count }) frozen committed net version next
+    → IsSlotShut h draft.slot old new → HoldsPages (page new) h draft.slot frozen count → DraftGoesOn old h draft frozen committed net version next
+    → DraftGoesOn new h (record draft { written = count }) frozen committed net version next
 goes_on_part old new h slot draft count frozen committed net version next is shut words goes =
     let same : SameBeside h (other slot) (page old) (page new) =
     subst (λ (s : Slot). SameBeside h s (page old) (page new)) is (outside_pages (page_number h (HeadOf draft.slot)) (slot_pages h + 1) old new shut.outside) in
@@ -118,8 +118,8 @@ goes_on_part old new h slot draft count frozen committed net version next is shu
 abbrev pub taken_over : Standing → Draft → ℕ → Standing
 taken_over x draft committed = record { header = x.header; slot = draft.slot; epoch = draft.epoch; network = x.network; version = x.version; next = x.next; unchecked = committed }
 
-pub numbers_taken_over : (x : Standing) (draft : Draft) (committed : ℕ) → HasFitNumbers x.header x.epoch x.version x.next x.unchecked → FitsStore x.header x.slot x.epoch x.version x.next x.unchecked draft committed
-    → HasFitNumbers x.header draft.epoch x.version x.next committed
+pub numbers_taken_over : (x : Standing) (draft : Draft) (committed : ℕ) → HasFitStoreNumbers x.header x.epoch x.version x.next x.unchecked → FitsStore x.header x.slot x.epoch x.version x.next x.unchecked draft committed
+    → HasFitStoreNumbers x.header draft.epoch x.version x.next committed
 numbers_taken_over x draft committed numbers fits = record {
   header = numbers.header;
   version_to = numbers.version_to;
@@ -129,9 +129,9 @@ numbers_taken_over x draft committed numbers fits = record {
   unchecked_from = omega (arith, fits.next_is);
 }
 
-module _ (old : List ℕ) (x : Standing) (draft : Draft) (frozen : Net) (committed : ℕ) (numbers : HasFitNumbers x.header x.epoch x.version x.next x.unchecked)
+module _ (old : List ℕ) (x : Standing) (draft : Draft) (frozen : Net) (committed : ℕ) (numbers : HasFitStoreNumbers x.header x.epoch x.version x.next x.unchecked)
     (fits : FitsStore x.header x.slot x.epoch x.version x.next x.unchecked draft committed) where
-  module _ (told : standing_of old ≡ Some x) (goes : GoesOn old x.header draft frozen committed x.network x.version x.next) (c : List ℕ) (whole : IsSlotWhole x.header draft.slot (head_of draft frozen) frozen old c) where
+  module _ (told : standing_of old ≡ Some x) (goes : DraftGoesOn old x.header draft frozen committed x.network x.version x.next) (c : List ℕ) (whole : IsSlotWhole x.header draft.slot (draft_head_of draft frozen) frozen old c) where
     held : IsStoredAs old x.header x.slot x.epoch x.network x.version x.next x.unchecked
     held = stored_as old x told
 
@@ -141,7 +141,7 @@ module _ (old : List ℕ) (x : Standing) (draft : Draft) (frozen : Net) (committ
     frozen_room : frozen.room ≡ x.header.room
     frozen_room = sym (after_ends frozen x.network (joined goes.since) goes.leads.network).room ∙ room_told old x told
 
-    head_fits : AreFit draft.epoch draft.version draft.next_sequence (length frozen.landmarks)
+    head_fits : AreHeadNumbersFit draft.epoch draft.version draft.next_sequence (length frozen.landmarks)
     head_fits = record {
       epoch_from = omega (arith, fits.epoch_is);
       epoch_to = omega (arith, numbers.epoch_to, fits.epoch_is, fits.one_before, fits.next_is);
@@ -150,8 +150,8 @@ module _ (old : List ℕ) (x : Standing) (draft : Draft) (frozen : Net) (committ
       count_to = goes.frozen_is.landmarks_to;
     }
 
-    holds : HoldsSlot (page c) x.header draft.slot (head_of draft frozen) frozen
-    holds = holds_slot x.header draft.slot (head_of draft frozen) frozen old c whole goes.frozen_is frozen_nodes frozen_room goes.frozen_from refl refl head_fits
+    holds : HoldsSlot (page c) x.header draft.slot (draft_head_of draft frozen) frozen
+    holds = holds_slot x.header draft.slot (draft_head_of draft frozen) frozen old c whole goes.frozen_is frozen_nodes frozen_room goes.frozen_from refl refl head_fits
 
     slot_is : draft.slot ≡ other held.stored.slot
     slot_is = fits.slot_is ∙ ap other (sym held.slot_is)
@@ -164,9 +164,9 @@ module _ (old : List ℕ) (x : Standing) (draft : Draft) (frozen : Net) (committ
     opened = subst (λ (s : Slot). is_open (page c (page_number held.stored.header (HeadOf s))) ≡ true) slot_is
         (subst (λ (h : Header). is_open (page c (page_number h (HeadOf draft.slot))) ≡ true) (sym held.header_is) whole.opened)
 
-    holds_it : HoldsSlot (page c) held.stored.header (other held.stored.slot) (head_of draft frozen) frozen
-    holds_it = subst (λ (s : Slot). HoldsSlot (page c) held.stored.header s (head_of draft frozen) frozen) slot_is
-        (subst (λ (h : Header). HoldsSlot (page c) h draft.slot (head_of draft frozen) frozen) (sym held.header_is) holds)
+    holds_it : HoldsSlot (page c) held.stored.header (other held.stored.slot) (draft_head_of draft frozen) frozen
+    holds_it = subst (λ (s : Slot). HoldsSlot (page c) held.stored.header s (draft_head_of draft frozen) frozen) slot_is
+        (subst (λ (h : Header). HoldsSlot (page c) h draft.slot (draft_head_of draft frozen) frozen) (sym held.header_is) holds)
 
     leads : LeadsTo (page old) held.stored.header frozen draft.version draft.next_sequence goes.since x.network x.version x.next
     leads = subst (λ (h : Header). LeadsTo (page old) h frozen draft.version draft.next_sequence goes.since x.network x.version x.next) (sym held.header_is) goes.leads
@@ -190,20 +190,20 @@ module _ (old : List ℕ) (x : Standing) (draft : Draft) (frozen : Net) (committ
     })
 
   -- the slot is whole: the file stands for the same, by that slot and the pages committed since
-  pub told_by_parts : standing_of old ≡ Some x → ∥ GoesOn old x.header draft frozen committed x.network x.version x.next ∥₁ → (c : List ℕ) → IsSlotWhole x.header draft.slot (head_of draft frozen) frozen old c
+  pub told_by_parts : standing_of old ≡ Some x → ∥ DraftGoesOn old x.header draft frozen committed x.network x.version x.next ∥₁ → (c : List ℕ) → IsSlotWhole x.header draft.slot (draft_head_of draft frozen) frozen old c
       → standing_of c ≡ Some (taken_over x draft committed)
   told_by_parts told goes c whole = ∥∥₁_elim goes (Prim.hlevel props) (λ on. told_then told on c whole)
 
-  pub tidy_by_parts : IsTidyAt old x.header x.next → (c : List ℕ) → IsSlotWhole x.header draft.slot (head_of draft frozen) frozen old c → IsTidyAt c x.header x.next
+  pub tidy_by_parts : IsTidyAt old x.header x.next → (c : List ℕ) → IsSlotWhole x.header draft.slot (draft_head_of draft frozen) frozen old c → IsTidyAt c x.header x.next
   tidy_by_parts tidy c whole =
       slots_keep_tidy old c x.header x.slot x.next tidy (subst (λ (s : Slot). SameOutside (slot_at x.header s) (slot_size x.header) old c) fits.slot_is whole.outside)
 
-  pub stands_by_parts : HasTidyStanding old x → ∥ GoesOn old x.header draft frozen committed x.network x.version x.next ∥₁ → (c : List ℕ) → IsSlotWhole x.header draft.slot (head_of draft frozen) frozen old c
+  pub stands_by_parts : HasTidyStanding old x → ∥ DraftGoesOn old x.header draft frozen committed x.network x.version x.next ∥₁ → (c : List ℕ) → IsSlotWhole x.header draft.slot (draft_head_of draft frozen) frozen old c
       → HasTidyStanding c (taken_over x draft committed)
   stands_by_parts stands goes c whole = (told_by_parts stands.0 goes c whole, tidy_by_parts stands.1 c whole)
 
   -- at each moment of a part
-  pub during_part : HasTidyStanding old x → ∥ GoesOn old x.header draft frozen committed x.network x.version x.next ∥₁ → (c : List ℕ) → IsSlotShutOrWhole x.header draft.slot (head_of draft frozen) frozen old c → StandsTidyFor x.header.journal_pages (slot_pages x.header) c x.network x.version
+  pub during_part : HasTidyStanding old x → ∥ DraftGoesOn old x.header draft frozen committed x.network x.version x.next ∥₁ → (c : List ℕ) → IsSlotShutOrWhole x.header draft.slot (draft_head_of draft frozen) frozen old c → StandsTidyFor x.header.journal_pages (slot_pages x.header) c x.network x.version
   during_part stands goes c way = ⊎_elim
       (λ shut. shut_stands old c x stands (subst (λ (s : Slot). IsSlotShut x.header s old c) fits.slot_is shut))
       (λ whole. still_stands c (taken_over x draft committed) (stands_by_parts stands goes c whole))
@@ -217,7 +217,7 @@ from_some {X} P o x e h = let at : IfSome (Some x) P = subst (λ (y : Option X).
 pub some_goes : {X : Type 0} (P : X → Type 0) (o : Option X) (x : X) → Some x ≡ o → ∥ IfSome o P ∥₁ → ∥ P x ∥₁
 some_goes P o x e h = ∥∥₁_map h (λ is. from_some P o x e is)
 
-pub words_held : (content : List ℕ) (h : Header) (draft : Draft) (frozen : Net) (committed : ℕ) (net : Net) (version next : ℕ) → ∥ GoesOn content h draft frozen committed net version next ∥₁
+pub words_held : (content : List ℕ) (h : Header) (draft : Draft) (frozen : Net) (committed : ℕ) (net : Net) (version next : ℕ) → ∥ DraftGoesOn content h draft frozen committed net version next ∥₁
     → HoldsPages (page content) h draft.slot frozen draft.written
 words_held content h draft frozen committed net version next goes = ∥∥₁_elim goes (Prim.hlevel props) (λ on. on.pages)
 
@@ -236,10 +236,10 @@ fits_part h slot epoch version next unchecked draft new committed count is few f
     })
 
 pub goes_part : (old c : List ℕ) (h : Header) (slot : Slot) (draft new : Draft) (count : ℕ) (frozen : Net) (committed : ℕ) (net : Net) (version next : ℕ) → draft.slot ≡ other slot → new ≡ record draft { written = count }
-    → IsSlotShut h draft.slot old c → HoldsPages (page c) h draft.slot frozen new.written → ∥ GoesOn old h draft frozen committed net version next ∥₁ → ∥ GoesOn c h new frozen committed net version next ∥₁
+    → IsSlotShut h draft.slot old c → HoldsPages (page c) h draft.slot frozen new.written → ∥ DraftGoesOn old h draft frozen committed net version next ∥₁ → ∥ DraftGoesOn c h new frozen committed net version next ∥₁
 goes_part old c h slot draft new count frozen committed net version next is_slot is shut words goes =
     let held : HoldsPages (page c) h draft.slot frozen count = subst (λ (d : Draft). HoldsPages (page c) h draft.slot frozen d.written) is words in
-    subst (λ (d : Draft). ∥ GoesOn c h d frozen committed net version next ∥₁) (sym is)
+    subst (λ (d : Draft). ∥ DraftGoesOn c h d frozen committed net version next ∥₁) (sym is)
     (∥∥₁_map goes (λ on. goes_on_part old c h slot draft count frozen committed net version next is_slot shut held on))
 
 -- by the fields as they are then
@@ -258,11 +258,11 @@ module _ (c : List ℕ) (x : Standing) (draft : Draft) (committed : ℕ) (slot :
 
 -- at each moment of a run of calls by which a part is written
 pub moments_of_part : {D : Type 0} (content : D → List ℕ) (moment : D → ℕ) (left_since : D → ℕ → List ℕ → Type 0) (old new : D) (x : Standing) (draft : Draft) (frozen : Net) (committed : ℕ)
-    → HasFitNumbers x.header x.epoch x.version x.next x.unchecked → FitsStore x.header x.slot x.epoch x.version x.next x.unchecked draft committed → HasTidyStanding (content old) x
-    → ∥ GoesOn (content old) x.header draft frozen committed x.network x.version x.next ∥₁ → LeavesOnly moment left_since old new (IsSlotShutOrWhole x.header draft.slot (head_of draft frozen) frozen (content old))
+    → HasFitStoreNumbers x.header x.epoch x.version x.next x.unchecked → FitsStore x.header x.slot x.epoch x.version x.next x.unchecked draft committed → HasTidyStanding (content old) x
+    → ∥ DraftGoesOn (content old) x.header draft frozen committed x.network x.version x.next ∥₁ → LeavesOnly moment left_since old new (IsSlotShutOrWhole x.header draft.slot (draft_head_of draft frozen) frozen (content old))
     → LeavesOnly moment left_since old new (λ c. StandsTidyFor x.header.journal_pages (slot_pages x.header) c x.network x.version)
 moments_of_part content moment left_since old new x draft frozen committed numbers fits stands goes run =
-    weaker moment left_since old new (IsSlotShutOrWhole x.header draft.slot (head_of draft frozen) frozen (content old)) (λ c. StandsTidyFor x.header.journal_pages (slot_pages x.header) c x.network x.version) run
+    weaker moment left_since old new (IsSlotShutOrWhole x.header draft.slot (draft_head_of draft frozen) frozen (content old)) (λ c. StandsTidyFor x.header.journal_pages (slot_pages x.header) c x.network x.version) run
     (λ c way. during_part (content old) x draft frozen committed numbers fits stands goes c way)
 
 -- at each moment while the gate is closed

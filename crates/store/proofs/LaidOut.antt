@@ -7,7 +7,7 @@ use Rattle.roadnet.specs.Net.{Net}
 use Rattle.pages.specs.declared.header.Header.{Header}
 use Rattle.pages.specs.declared.content.Slot.TheVariants.{A, B}
 use Rattle.pages.specs.declared.content.Format.TheVariants.{Two}
-use Rattle.pages.specs.Spelling.{zeros, page_of, header_fields, header_page, head_fields, head_page, ends_bytes, ends_of, word_bytes, word_of}
+use Rattle.pages.specs.Spelling.{zeros, page_of, header_fields, header_page, head_fields, head_page, ends_bytes, ends_of, bytes_of_word, word_of}
 use Rattle.pages.specs.Layout.{Part, Front, Arcs, HeadOf, Words, EndsOf, Journal, IsPart, arc_pages, word_pages, end_pages, slot_pages, page_number, page_count}
 use Rattle.pages.proofs.Items.{length-items}
 use Rattle.pages.proofs.Heads.{length-fields}
@@ -24,8 +24,8 @@ arcs_size net i = length-page_of (flat_map ends_bytes (map ends_of (part 511 i n
     (omega (arith, length-part 511 i net.arcs, length-items ends_bytes 8 (λ x. refl) (map ends_of (part 511 i net.arcs)), length-map (part 511 i net.arcs) ends_of))
 
 pub words_size : (net : Net) (i : ℕ) → length (page_of_words net i) ≡ 4096
-words_size net i = length-page_of (flat_map word_bytes (map word_of (part 1023 i net.arcs)))
-    (omega (arith, length-part 1023 i net.arcs, length-items word_bytes 4 (λ x. refl) (map word_of (part 1023 i net.arcs)), length-map (part 1023 i net.arcs) word_of))
+words_size net i = length-page_of (flat_map bytes_of_word (map word_of (part 1023 i net.arcs)))
+    (omega (arith, length-part 1023 i net.arcs, length-items bytes_of_word 4 (λ x. refl) (map word_of (part 1023 i net.arcs)), length-map (part 1023 i net.arcs) word_of))
 
 pub header_size : (h : Header) → length (header_page h) ≡ 4096
 header_size h = length-page_of (header_fields h) (omega arith)

@@ -16,7 +16,7 @@ use Rattle.storefile.specs.Judging.{opened_in}
 use Rattle.storefile.specs.Standing.{Standing, standing_in}
 use Rattle.storefile.proofs.Whole.{opened_is}
 use Rattle.store.specs.Created.{IsNewFile}
-use Rattle.store.specs.Migrating.{room_of, roomed, IsCopyIn, HasNoSuchRoom, IsRefusedForNew, IsRefusedForOld, CountsFailure, CountsCopy, MayEndCopying, Copies}
+use Rattle.store.specs.Migrating.{room_of, roomed, IsCopyIn, HasNoSuchRoomForOld, IsRefusedForNew, IsRefusedForOld, CountsCopyFailure, CountsCopy, MayEndCopying, Copies}
 use Rattle.store.specs.Opening.{HeaderFitsIn}
 use Rattle.store.specs.State.{StoreState, checkpoint_pages_of, IsCountedBy}
 
@@ -55,7 +55,7 @@ copied format file x net version journal_pages room journal e version_is pages_a
       network_is = net_is;
     }
 
-pub no_such_room : (format : Format) (file : List ℕ) (x : Standing) (room : Option ℕ) → standing_in (opened_in format file) ≡ Some x → ¬ IsRoomFor x.network (room_of x.network room) → HasNoSuchRoom file room
+pub no_such_room : (format : Format) (file : List ℕ) (x : Standing) (room : Option ℕ) → standing_in (opened_in format file) ≡ Some x → ¬ IsRoomFor x.network (room_of x.network room) → HasNoSuchRoomForOld file room
 no_such_room format file x room e unfit =
     let s = stood_for format file x e in
     record { stored = s.stored; before = x.network; version = x.version; next = x.next; stands = s.stands; unfit = unfit }
@@ -138,10 +138,10 @@ pub all_causes : {D : Type 0} (r : Result (StoreState D) (Refusal × D)) → IfE
 all_causes (Ok store) why = tt
 all_causes (Err refused) why = cause refused.0 why
 
-counted : (refusal : Refusal) (old old' new mid new' : ℕ) → IsRefusedSo refusal → old' ≡ old → mid ≡ new → new' ≡ failures_with refusal mid → CountsFailure refusal old old' new new'
-counted refusal old old' new mid new' (inl e) same read told = subst (λ (r : Refusal). CountsFailure r old old' new new') (sym e) (same, told ∙ ap (λ (r : Refusal). failures_with r mid) e ∙ read)
-counted refusal old old' new mid new' (inr (inl e)) same read told = subst (λ (r : Refusal). CountsFailure r old old' new new') (sym e) (inr (same, told ∙ ap (λ (r : Refusal). failures_with r mid) e ∙ ap one_more read))
-counted refusal old old' new mid new' (inr (inr e)) same read told = subst (λ (r : Refusal). CountsFailure r old old' new new') (sym e) (same, told ∙ ap (λ (r : Refusal). failures_with r mid) e ∙ read)
+counted : (refusal : Refusal) (old old' new mid new' : ℕ) → IsRefusedSo refusal → old' ≡ old → mid ≡ new → new' ≡ failures_with refusal mid → CountsCopyFailure refusal old old' new new'
+counted refusal old old' new mid new' (inl e) same read told = subst (λ (r : Refusal). CountsCopyFailure r old old' new new') (sym e) (same, told ∙ ap (λ (r : Refusal). failures_with r mid) e ∙ read)
+counted refusal old old' new mid new' (inr (inl e)) same read told = subst (λ (r : Refusal). CountsCopyFailure r old old' new new') (sym e) (inr (same, told ∙ ap (λ (r : Refusal). failures_with r mid) e ∙ ap one_more read))
+counted refusal old old' new mid new' (inr (inr e)) same read told = subst (λ (r : Refusal). CountsCopyFailure r old old' new new') (sym e) (same, told ∙ ap (λ (r : Refusal). failures_with r mid) e ∙ read)
 
 pub all_counted : {O D : Type 0} (r : Result (StoreState D) (Refusal × D)) (of_old : O → ℕ) (of_new : D → ℕ) (old old' : O) (new mid : D) → of_old old' ≡ of_old old → of_new mid ≡ of_new new → IfErr r (λ refused. IsRefusedSo refused.0)
     → MatchResult r (λ store. of_new store.disk ≡ of_new mid) (IsCountedBy of_new mid) → CountsCopy of_old of_new old old' new r
@@ -157,7 +157,7 @@ all_same disk (Err refused) before mid first second = λ other. same_twice disk.
 -- the new disk is handed back
 pub refused_so : {O D : Type 0} (from : Ghosts O) (to : Ghosts D) (format : Format) (room journal : Option ℕ) (old old' : O) (new new' : D) (refusal : Refusal)
     → (to.honest new → IsRefusedForNew (to.content new) refusal) → (from.honest old → IsRefusedForOld format (from.content old) room refusal) → MayEndCopying refusal
-    → CountsFailure refusal (from.failures old) (from.failures old') (to.failures new) (to.failures new') → (from.honest old → StaysSame from.content from.left from.moment from.left_since old old')
+    → CountsCopyFailure refusal (from.failures old) (from.failures old') (to.failures new) (to.failures new') → (from.honest old → StaysSame from.content from.left from.moment from.left_since old old')
     → (to.honest new → refusal ≢ Device → StaysSame to.content to.left to.moment to.left_since new new') → from.honest old' ↔ from.honest old → to.honest new' ↔ to.honest new
     → Copies from to format room journal old old' new (Err (refusal, new'))
 refused_so from to format room journal old old' new new' refusal for_new for_old cause counts untouched same honest honest_new = record {

@@ -13,7 +13,7 @@ use Rattle.pages.specs.Limits.{most_versions}
 use Rattle.pages.specs.Spelling.{zeros, page_of, body, header_page, IsHeader, IsEnds, ends_of, SpelledArcs, IsWord, word_of, head_page}
 use Rattle.pages.specs.Layout.{Front, Arcs, HeadOf, Words, EndsOf, Journal, places_in_use, slot_pages, page_number}
 use Rattle.storefile.specs.StoreFile.{page, part, is_open, journal_page_at, is_standing, Stored, Stores, HoldsArcs, HoldsSlot, HoldsNetwork, StandsTidyFor, head_of}
-use Rattle.storefile.specs.Standing.{IsStoredAs, IsTidyAt, standing_of, HasFitNumbers}
+use Rattle.storefile.specs.Standing.{IsStoredAs, IsTidyAt, standing_of, HasFitStoreNumbers}
 use Rattle.storefile.proofs.PageBytes.{gate_pages, gate_body, gate_opens, gate_length}
 use Rattle.storefile.proofs.Rests.{standing_is}
 use Rattle.store.specs.Created.{header_of, first_head, blank_page, IsLaidOut, with_gate}
@@ -184,7 +184,7 @@ module _ (file : List ℕ) (net : Net) (v j : ℕ) (few_versions : v ≤ most_ve
   pub standing : standing_of whole ≡ Some (record { header = h; slot = A; epoch = 1; network = net; version = v; next = 0; unchecked = 0 })
   standing = standing_is whole h A 1 net v 0 0 stored_as
 
-pub new_numbers : (h : Header) (v : ℕ) → IsHeader h → v ≤ most_versions → HasFitNumbers h 1 v 0 0
+pub new_numbers : (h : Header) (v : ℕ) → IsHeader h → v ≤ most_versions → HasFitStoreNumbers h 1 v 0 0
 new_numbers h v fits few = record { header = fits; version_to = few; next_to = omega arith; epoch_to = omega arith; unchecked_to = omega arith; unchecked_from = omega arith }
 
 -- what `create` has made, whatever its disk

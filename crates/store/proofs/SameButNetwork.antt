@@ -5,15 +5,15 @@ use Rattle.std.proofs.Props.{props}
 use Rattle.disk.specs.declared.disk.Disk.{Ghosts}
 use Rattle.roadnet.specs.Net.{Net}
 use Rattle.pages.specs.declared.content.Format.TheVariants.{Two}
-use Rattle.storefile.specs.Standing.{HasFitNumbers}
+use Rattle.storefile.specs.Standing.{HasFitStoreNumbers}
 use Rattle.store.specs.declared.paged.state.Paged.{Paged}
 use Rattle.store.specs.Resting.{IsAtRest}
-use Rattle.store.specs.Going.{FitsStore, GoesOn}
+use Rattle.store.specs.Going.{FitsStore, DraftGoesOn}
 
 module _ {D : Type 0} {disk : Ghosts D} where
   -- what is known of the pages, with this network in place of theirs
   abbrev pub HasNumbers : Paged D disk → Type 0
-  HasNumbers s = HasFitNumbers s.found.header s.found.epoch s.found.version s.found.next_sequence s.found.unchecked
+  HasNumbers s = HasFitStoreNumbers s.found.header s.found.epoch s.found.version s.found.next_sequence s.found.unchecked
 
   abbrev pub Rests : Paged D disk → Type 0
   Rests s = s.broken ≡ false → disk.honest s.disk → IsAtRest (disk.content s.disk) (disk.left s.disk) s.found.header
@@ -23,7 +23,7 @@ module _ {D : Type 0} {disk : Ghosts D} where
 
   abbrev pub GoesOnTo : Paged D disk → Net → Type 0
   GoesOnTo s net =
-      s.broken ≡ false → disk.honest s.disk → ∥ IfSome s.going (λ g. GoesOn (disk.content s.disk) s.found.header g.next g.frozen g.committed net s.found.version s.found.next_sequence) ∥₁
+      s.broken ≡ false → disk.honest s.disk → ∥ IfSome s.going (λ g. DraftGoesOn (disk.content s.disk) s.found.header g.next g.frozen g.committed net s.found.version s.found.next_sequence) ∥₁
 
   numbers_one : (s : Paged D disk) → IsProp (HasNumbers s)
   numbers_one s = Prim.hlevel props

@@ -8,7 +8,7 @@ use Rattle.roadnet.specs.Net.{Net}
 use Rattle.pages.specs.declared.header.Header.{Header}
 use Rattle.pages.specs.declared.content.Format.{Format}
 use Rattle.pages.specs.declared.content.Format.TheVariants.{One, Two}
-use Rattle.pages.specs.Formats.{number_of}
+use Rattle.pages.specs.Formats.{format_number_of}
 use Rattle.pages.specs.declared.content.Slot.{Slot}
 use Rattle.pages.specs.declared.content.Ends.{Ends}
 use Rattle.pages.specs.declared.content.Word.{Word}
@@ -91,7 +91,7 @@ opened_in_parts f size pages = sym (
     bind_same (header_from f size (pages 0)) (λ h. current_from pages h >>= after_current pages h)
     (λ h. ends_from pages h >>= λ e. current_slot pages h >>= λ s. head_from pages h s >>= λ d. words_from pages h s d.arcs >>= λ w. laid_from pages h s d.arcs >>= λ l. after_current pages h (current_with s d (network_from h (e ++ l) w d)))
     (λ h. current_steps h (ends_from pages h) (current_slot pages h) (head_from pages h) (λ x d. words_from pages h x d.arcs) (λ x d. laid_from pages h x d.arcs) (after_current pages h))
-    ∙ header_steps (unless_so (begins_as_store size (pages 0)) NotAStore) (unless_so (format_of (pages 0) == number_of f) WrongFormat) (spelled_at 0 (header_in (pages 0))) (λ h. unless_so (size == 4096 * page_count h) (Damaged 0))
+    ∙ header_steps (unless_so (begins_as_store size (pages 0)) NotAStore) (unless_so (format_of (pages 0) == format_number_of f) WrongFormat) (spelled_at 0 (header_in (pages 0))) (λ h. unless_so (size == 4096 * page_count h) (Damaged 0))
     (λ h. ends_from pages h >>= λ e. current_slot pages h >>= λ s. head_from pages h s >>= λ d. words_from pages h s d.arcs >>= λ w. laid_from pages h s d.arcs >>= λ l. after_current pages h (current_with s d (network_from h (e ++ l) w d))))
 
 pub no_header : (f : Format) (size : ℕ) (pages : ℕ → List ℕ) (refusal : Refusal) → header_from f size (pages 0) ≡ Err refusal → opened_from f size pages ≡ Err refusal
@@ -142,7 +142,7 @@ slot_loaded pages h ends slot head net is chosen e =
 
 -- ---- the header, step by step
 
-pub format_by : (f g : Format) → number_of f ≡ number_of g → f ≡ g
+pub format_by : (f g : Format) → format_number_of f ≡ format_number_of g → f ≡ g
 format_by One One e = refl
 format_by One Two e = absurd (omega arith)
 format_by Two One e = absurd (omega arith)
@@ -151,27 +151,27 @@ format_by Two Two e = refl
 pub no_store : (f : Format) (size : ℕ) (page : List ℕ) → begins_as_store size page ≡ false → header_from f size page ≡ Err NotAStore
 no_store f size page e = rw e refl
 
-pub other_format : (f : Format) (size : ℕ) (page : List ℕ) → begins_as_store size page ≡ true → (format_of page == number_of f) ≡ false → header_from f size page ≡ Err WrongFormat
+pub other_format : (f : Format) (size : ℕ) (page : List ℕ) → begins_as_store size page ≡ true → (format_of page == format_number_of f) ≡ false → header_from f size page ≡ Err WrongFormat
 other_format f size page begins e = rw (begins, e) refl
 
-pub no_spelling : (f : Format) (size : ℕ) (page : List ℕ) → begins_as_store size page ≡ true → (format_of page == number_of f) ≡ true → header_in page ≡ None → header_from f size page ≡ Err (Damaged 0)
+pub no_spelling : (f : Format) (size : ℕ) (page : List ℕ) → begins_as_store size page ≡ true → (format_of page == format_number_of f) ≡ true → header_in page ≡ None → header_from f size page ≡ Err (Damaged 0)
 no_spelling f size page begins format e =
-    ap (λ (b : Bool). unless_so b NotAStore >>= λ _. unless_so (format_of page == number_of f) WrongFormat >>= λ _. spelled_at 0 (header_in page) >>= λ h. unless_so (size == 4096 * page_count h) (Damaged 0) >>= λ _. Ok h) begins
+    ap (λ (b : Bool). unless_so b NotAStore >>= λ _. unless_so (format_of page == format_number_of f) WrongFormat >>= λ _. spelled_at 0 (header_in page) >>= λ h. unless_so (size == 4096 * page_count h) (Damaged 0) >>= λ _. Ok h) begins
     ∙ ap (λ (b : Bool). unless_so b WrongFormat >>= λ _. spelled_at 0 (header_in page) >>= λ h. unless_so (size == 4096 * page_count h) (Damaged 0) >>= λ _. Ok h) format
     ∙ ap (λ (o : Option Header). spelled_at 0 o >>= λ h. unless_so (size == 4096 * page_count h) (Damaged 0) >>= λ _. Ok h) e
 
-pub sized_so : (f : Format) (size : ℕ) (page : List ℕ) (h : Header) → begins_as_store size page ≡ true → (format_of page == number_of f) ≡ true → header_in page ≡ Some h
+pub sized_so : (f : Format) (size : ℕ) (page : List ℕ) (h : Header) → begins_as_store size page ≡ true → (format_of page == format_number_of f) ≡ true → header_in page ≡ Some h
     → header_from f size page ≡ (unless_so (size == 4096 * page_count h) (Damaged 0) >>= λ _. Ok h)
 sized_so f size page h begins format e =
-    ap (λ (b : Bool). unless_so b NotAStore >>= λ _. unless_so (format_of page == number_of f) WrongFormat >>= λ _. spelled_at 0 (header_in page) >>= λ h. unless_so (size == 4096 * page_count h) (Damaged 0) >>= λ _. Ok h) begins
+    ap (λ (b : Bool). unless_so b NotAStore >>= λ _. unless_so (format_of page == format_number_of f) WrongFormat >>= λ _. spelled_at 0 (header_in page) >>= λ h. unless_so (size == 4096 * page_count h) (Damaged 0) >>= λ _. Ok h) begins
     ∙ ap (λ (b : Bool). unless_so b WrongFormat >>= λ _. spelled_at 0 (header_in page) >>= λ h. unless_so (size == 4096 * page_count h) (Damaged 0) >>= λ _. Ok h) format
     ∙ ap (λ (o : Option Header). spelled_at 0 o >>= λ h. unless_so (size == 4096 * page_count h) (Damaged 0) >>= λ _. Ok h) e
 
-pub other_size : (f : Format) (size : ℕ) (page : List ℕ) (h : Header) → begins_as_store size page ≡ true → (format_of page == number_of f) ≡ true → header_in page ≡ Some h → (size == 4096 * page_count h) ≡ false
+pub other_size : (f : Format) (size : ℕ) (page : List ℕ) (h : Header) → begins_as_store size page ≡ true → (format_of page == format_number_of f) ≡ true → header_in page ≡ Some h → (size == 4096 * page_count h) ≡ false
     → header_from f size page ≡ Err (Damaged 0)
 other_size f size page h begins format e other = sized_so f size page h begins format e ∙ ap (λ (b : Bool). unless_so b (Damaged 0) >>= λ _. Ok h) other
 
-pub header_known : (f : Format) (size : ℕ) (page : List ℕ) (h : Header) → begins_as_store size page ≡ true → (format_of page == number_of f) ≡ true → header_in page ≡ Some h → (size == 4096 * page_count h) ≡ true
+pub header_known : (f : Format) (size : ℕ) (page : List ℕ) (h : Header) → begins_as_store size page ≡ true → (format_of page == format_number_of f) ≡ true → header_in page ≡ Some h → (size == 4096 * page_count h) ≡ true
     → header_from f size page ≡ Ok h
 header_known f size page h begins format e same = sized_so f size page h begins format e ∙ ap (λ (b : Bool). unless_so b (Damaged 0) >>= λ _. Ok h) same
 

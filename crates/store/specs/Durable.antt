@@ -20,8 +20,8 @@ abbrev pub begun_by : {D : Type 0} {disk : Ghosts D} → Paged D disk → Progre
 begun_by store = record { version = store.found.version; left = slot_pages store.found.header; committed = 0 }
 
 -- the checkpoint that a part is of: the one that is going, or else one that begins
-abbrev pub parts_of : {D : Type 0} {disk : Ghosts D} → Paged D disk → Progress
-parts_of store = unwrap_or (going_of store) (begun_by store)
+abbrev pub begun_progress : {D : Type 0} {disk : Ghosts D} → Paged D disk → Progress
+begun_progress store = unwrap_or (going_of store) (begun_by store)
 
 -- none is going, and no page of the journal is unchecked
 abbrev pub has_all_checked : {D : Type 0} {disk : Ghosts D} → Paged D disk → Bool

@@ -1,6 +1,6 @@
 -- A checkpoint that goes part by part, with commits between the parts.
 use Rattle.std.specs.Prelude.{◌≡◌, ℕ, ◌+◌, ◌-◌, ◌<◌, ◌≤◌, nat_lt, List, length, Option, Some, None, option_map, if◌then◌else◌}
-use Rattle.disk.specs.Gated.{IsOpen}
+use Rattle.disk.specs.Gated.{IsGateOpen}
 use Rattle.roadnet.specs.declared.commands.Command.{Command}
 use Rattle.roadnet.specs.Net.{Net, IsNetwork}
 use Rattle.pages.specs.declared.header.Header.{Header}
@@ -33,15 +33,15 @@ abbrev pub with_one_more : GoingCheckpoint → GoingCheckpoint
 with_one_more g = record g { committed = g.committed + 1 }
 
 -- so many of its pages more are written
-abbrev pub with_pages_written : ℕ → Progress → Progress
-with_pages_written pages p = record p { left = p.left - pages }
+abbrev pub progress_with_pages_written : ℕ → Progress → Progress
+progress_with_pages_written pages p = record p { left = p.left - pages }
 
 -- a part of so many pages: it goes on while more are left, and is done else
 abbrev pub part_by : Progress → ℕ → Part
 part_by p pages = if nat_lt pages p.left then Going else Done p.version
 
 abbrev pub progress_by : Progress → ℕ → Option Progress
-progress_by p pages = if nat_lt pages p.left then Some (with_pages_written pages p) else None
+progress_by p pages = if nat_lt pages p.left then Some (progress_with_pages_written pages p) else None
 
 -- the unchecked pages after it: once it is done, those that were committed since it began
 abbrev pub unchecked_by : Progress → ℕ → ℕ → ℕ
@@ -69,8 +69,8 @@ pub record FitsStore (h : Header) (slot : Slot) (epoch version next unchecked : 
 
 -- Its slot has a closed gate and holds the first pages of the frozen network, from which the journal pages committed since lead to this
 -- network and version.
-pub record GoesOn (content : List ℕ) (h : Header) (draft : Draft) (frozen : Net) (committed : ℕ) (net : Net) (version next : ℕ) : Type 0 where
-  pub closed : IsOpen (slot_gate h draft.slot) content → ⊥
+pub record DraftGoesOn (content : List ℕ) (h : Header) (draft : Draft) (frozen : Net) (committed : ℕ) (net : Net) (version next : ℕ) : Type 0 where
+  pub closed : IsGateOpen (slot_gate h draft.slot) content → ⊥
   pub pages : HoldsPages (page content) h draft.slot frozen draft.written
   pub frozen_is : IsNetwork frozen
   pub frozen_from : h.arcs ≤ length frozen.arcs

@@ -36,7 +36,7 @@ pub record IsCopyIn (format : Format) (old : List ℕ) (net : Net) (version jour
   pub network_is : net ≡ roomed before room
 
 -- the room that is given is none for the network of the old store
-pub record HasNoSuchRoom (old : List ℕ) (room : Option ℕ) : Type 0 where
+pub record HasNoSuchRoomForOld (old : List ℕ) (room : Option ℕ) : Type 0 where
   pub stored : Stored
   pub before : Net
   pub version : ℕ
@@ -53,21 +53,21 @@ IsRefusedForNew new other = new ≡ []
 -- A copy is refused so, and the old disk has this content: 40 to 42 is what opening it in this format refuses; 9 comes for the room; and 11 where the
 -- header fits the file.
 abbrev pub IsRefusedForOld : Format → List ℕ → Option ℕ → Refusal → Type 0
-IsRefusedForOld format old room TooLarge = HasNoSuchRoom old room
+IsRefusedForOld format old room TooLarge = HasNoSuchRoomForOld old room
 IsRefusedForOld format old room OutOfMemory = HeaderFitsIn format old
 IsRefusedForOld format old room NotEmpty = ⊤
 IsRefusedForOld format old room Device = ⊤
 IsRefusedForOld format old room other = judged_in format old ≡ Some other
 
 -- where 43 is told one call of one of the two disks has failed, and else none
-abbrev pub CountsFailure : Refusal → ℕ → ℕ → ℕ → ℕ → Type 0
-CountsFailure Device old old' new new' = ((old' ≡ one_more old) × (new' ≡ new)) ⊎ ((old' ≡ old) × (new' ≡ one_more new))
-CountsFailure other old old' new new' = (old' ≡ old) × (new' ≡ new)
+abbrev pub CountsCopyFailure : Refusal → ℕ → ℕ → ℕ → ℕ → Type 0
+CountsCopyFailure Device old old' new new' = ((old' ≡ one_more old) × (new' ≡ new)) ⊎ ((old' ≡ old) × (new' ≡ one_more new))
+CountsCopyFailure other old old' new new' = (old' ≡ old) × (new' ≡ new)
 
 abbrev pub CountsCopy : {O D : Type 0} → (O → ℕ) → (D → ℕ) → O → O → D → Result (StoreState D) (Refusal × D) → Type 0
 CountsCopy of_old of_new old old' new result = MatchResult result
     (λ store. (of_old old' ≡ of_old old) × (of_new store.disk ≡ of_new new))
-    (λ refused. CountsFailure refused.0 (of_old old) (of_old old') (of_new new) (of_new refused.1))
+    (λ refused. CountsCopyFailure refused.0 (of_old old) (of_old old') (of_new new) (of_new refused.1))
 
 -- the refusals with which a copy may end, whatever the disks: those of an opening, a disk that is not empty, a room that is none
 abbrev pub ends_copying : Refusal → Bool

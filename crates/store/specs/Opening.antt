@@ -1,7 +1,7 @@
 -- The parts of opening a file.
 use Rattle.std.specs.Prelude.{◌≡◌, ◌⊎◌, ◌≤◌, Some, ℕ, ◌+◌, ◌*◌, nat_le, ◌==◌, List, length, Result, Ok}
 use Rattle.storefile.specs.StoreFile.{page, joined, StandsFor}
-use Rattle.storefile.specs.Standing.{Standing, HasFitNumbers}
+use Rattle.storefile.specs.Standing.{Standing, HasFitStoreNumbers}
 use Rattle.store.specs.declared.opened.found.Found.{Found}
 use Rattle.roadnet.specs.declared.commands.Command.{Command}
 use Rattle.roadnet.specs.declared.refusals.Refusal.{Refusal}
@@ -17,13 +17,13 @@ use Rattle.checkpoint.specs.Loading.{loaded_from}
 use Rattle.pages.specs.Limits.{page_size, most_versions}
 use Rattle.pages.specs.declared.content.Format.{Format}
 use Rattle.pages.specs.declared.content.Format.TheVariants.{Two}
-use Rattle.pages.specs.Formats.{number_of}
+use Rattle.pages.specs.Formats.{format_number_of}
 
 -- the header of a file of this format and this size, whose first page is this
 abbrev pub header_from : Format → ℕ → List ℕ → Result Header Refusal
 header_from format size page = do
   _ ← unless_so (begins_as_store size page) NotAStore
-  _ ← unless_so (format_of page == number_of format) WrongFormat
+  _ ← unless_so (format_of page == format_number_of format) WrongFormat
   h ← spelled_at 0 (header_in page)
   _ ← unless_so (size == page_size * page_count h) (Damaged 0)
   Ok h
@@ -99,7 +99,7 @@ pub record IsFoundBehind (h : Header) (slot : Slot) (head : Head) (found : Found
 
 -- none of its numbers is past what its pages can spell, and the arcs that the store was made with are among the network's
 pub record IsSound (found : Found) : Type 0 where
-  pub numbers : HasFitNumbers found.header found.epoch found.version found.next_sequence found.unchecked
+  pub numbers : HasFitStoreNumbers found.header found.epoch found.version found.next_sequence found.unchecked
   pub arcs_from : found.header.arcs ≤ length found.network.arcs
 
 -- it has the network and the version after the journal behind that slot

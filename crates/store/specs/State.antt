@@ -151,9 +151,9 @@ abbrev pub is_calm : {D : Type 0} → StoreState D → Bool
 is_calm s = not s.broken && is_none s.going
 
 -- the checkpoint that a part is of: the one that is going, or else one that begins
-abbrev pub checkpoint_of : {D : Type 0} → StoreState D → Progress
-checkpoint_of s = unwrap_or s.going (record { version = s.version; left = s.checkpoint_pages; committed = 0 })
+abbrev pub going_checkpoint_of : {D : Type 0} → StoreState D → Progress
+going_checkpoint_of s = unwrap_or s.going (record { version = s.version; left = s.checkpoint_pages; committed = 0 })
 
 -- none is going, and no page of the journal is unchecked
-abbrev pub has_all_checked : {D : Type 0} → StoreState D → Bool
-has_all_checked s = is_none s.going && (s.unchecked == 0)
+abbrev pub has_none_unchecked : {D : Type 0} → StoreState D → Bool
+has_none_unchecked s = is_none s.going && (s.unchecked == 0)

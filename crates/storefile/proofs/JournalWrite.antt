@@ -12,7 +12,7 @@ use Rattle.roadnet.proofs.Stepped.{after_both}
 use Rattle.pages.specs.declared.header.Header.{Header}
 use Rattle.pages.specs.Spelling.{SpelledEntry}
 use Rattle.pages.proofs.Entries.{entry_read}
-use Rattle.storefile.specs.StoreFile.{page, is_open, journal_page_at, Stored, Stores, Gives, first_field, is_standing, HasNoLaterPage, groups_of, next_sequence}
+use Rattle.storefile.specs.StoreFile.{page, is_open, journal_page_at, Stored, Stores, GivesNetwork, first_field, is_standing, HasNoLaterPage, groups_of, next_sequence}
 use Rattle.storefile.specs.Standing.{with_groups, LeadsTo}
 use Rattle.storefile.specs.Laws.{SameBut, ClosedPageMeansNothing, OpenPageIsOneMore}
 use Rattle.storefile.proofs.PageBytes.{same_but}
@@ -45,7 +45,7 @@ flat-end : (css : List (List (List Command))) (cs : List (List Command)) → fla
 flat-end [] cs = append-nil cs
 flat-end (ds ∷ css) cs = ap (λ (l : List (List Command)). ds ++ l) (flat-end css cs) ∙ sym (append_assoc ds (flat_map (λ xs. xs) css) cs)
 
-pub gives_more : (s : Stored) (net net' : Net) (version : ℕ) (commands : List (List Command)) → Gives s net version → after net commands ≡ Some net' → Gives (with_groups s commands) net' (version + length commands)
+pub gives_more : (s : Stored) (net net' : Net) (version : ℕ) (commands : List (List Command)) → GivesNetwork s net version → after net commands ≡ Some net' → GivesNetwork (with_groups s commands) net' (version + length commands)
 gives_more s net net' version commands gives goes = record {
   network = ap (after s.network) (flat-end s.unchecked commands) ∙ after_both s.network (groups_of s) commands ∙ ap (λ (o : Option Net). option_and_then (λ next. after next commands) o) gives.network ∙ goes;
   version_is = omega (arith, gives.version_is, ap length (flat-end s.unchecked commands), length-append (groups_of s) commands);

@@ -18,10 +18,10 @@ use Rattle.pages.specs.Spelling.{body, IsHeader, SpelledHeader, arc_page, Spelle
 use Rattle.pages.specs.declared.content.Format.{Format}
 use Rattle.pages.specs.declared.content.Format.TheVariants.{One, Two}
 use Rattle.pages.specs.declared.content.Record.{Record}
-use Rattle.pages.specs.Formats.{IsRoomFor, landmarks_at}
+use Rattle.pages.specs.Formats.{IsHeaderRoomFor, landmarks_at}
 use Rattle.pages.specs.Grouping.{records_in, grouped}
 use Rattle.pages.specs.Reading.{read_items, read_records, is_ends}
-use Rattle.storefile.specs.Judging.{kept, is_room_for, is_header, header_in, arcs_in, words_in, is_ascending, read_head, is_head, head_in, fits_record, is_record, are_entry, entry_with, entry_in}
+use Rattle.storefile.specs.Judging.{kept_if, is_room_for, is_header, header_in, arcs_in, words_in, is_ascending, read_head, is_head, head_in, fits_record, is_record, are_entry, entry_with, entry_in}
 use Rattle.storefile.proofs.Names.{header_body, head_body, entry_body, records_body}
 use Rattle.pages.proofs.Headers.{header_read}
 use Rattle.pages.proofs.Entries.{entry_read}
@@ -30,7 +30,7 @@ use Rattle.pages.proofs.Records.{record_is_of}
 use Rattle.pages.proofs.Heads.{head_read, nodes_are, same_head}
 use Rattle.pages.proofs.Places.{arcs_read, words_read, ends_are, pass_all}
 
-kept_true : {X : Type 0} (b : Bool) (x : X) → b ≡ true → kept b x ≡ Some x
+kept_true : {X : Type 0} (b : Bool) (x : X) → b ≡ true → kept_if b x ≡ Some x
 kept_true true x e = refl
 kept_true false x e = absurd cc
 
@@ -42,7 +42,7 @@ and_true false b p q = p
 pub same_bytes : (xs ys : List ℕ) → xs ≡ ys → bytes_eq xs ys ≡ true
 same_bytes xs ys e = (bytes_eq-Decides xs ys).1 e
 
-room_test : (f : Format) (arcs room : ℕ) → IsRoomFor f arcs room → is_room_for f arcs room ≡ true
+room_test : (f : Format) (arcs room : ℕ) → IsHeaderRoomFor f arcs room → is_room_for f arcs room ≡ true
 room_test One arcs room is = eq-eqb room arcs (is refl)
 room_test Two arcs room is = refl
 
@@ -54,17 +54,17 @@ header_test h fits =
 pub header_found : (page : List ℕ) (h : Header) → SpelledHeader page h → header_in page ≡ Some h
 header_found page h spells =
     let test : is_header h ≡ true = header_test h spells.fits in
-    ap (λ (r : Header). kept (is_header r && bytes_eq (body page) (header_body r)) r) (header_read page h spells)
+    ap (λ (r : Header). kept_if (is_header r && bytes_eq (body page) (header_body r)) r) (header_read page h spells)
     ∙ kept_true (is_header h && bytes_eq (body page) (header_body h)) h (and_true _ _ test (same_bytes (body page) (header_body h) spells.spelled))
 
 pub arcs_found : (nodes count : ℕ) (page : List ℕ) (arcs : List Ends) → nodes < 2 ^ 32 → SpelledArcs nodes count page arcs → arcs_in nodes count page ≡ Some arcs
 arcs_found nodes count page arcs lt spells =
-    ap (λ (r : List Ends). kept (list_all (is_ends nodes) r && bytes_eq page (arc_page r)) r) (arcs_read nodes count page arcs lt spells)
+    ap (λ (r : List Ends). kept_if (list_all (is_ends nodes) r && bytes_eq page (arc_page r)) r) (arcs_read nodes count page arcs lt spells)
     ∙ kept_true (list_all (is_ends nodes) arcs && bytes_eq page (arc_page arcs)) arcs (and_true _ _ (ends_are nodes arcs spells.fits) (same_bytes page (arc_page arcs) spells.spelled))
 
 pub words_found : (count : ℕ) (page : List ℕ) (words : List Word) → SpelledWords count page words → words_in count page ≡ Some words
 words_found count page words spells =
-    ap (λ (r : List Word). kept (bytes_eq page (word_page r)) r) (words_read count page words spells)
+    ap (λ (r : List Word). kept_if (bytes_eq page (word_page r)) r) (words_read count page words spells)
     ∙ kept_true (bytes_eq page (word_page words)) words (same_bytes page (word_page words) spells.spelled)
 
 next_place : (x : ℕ) (xs : List ℕ) → IsStrictlyIncreasing (x ∷ xs) → IsStrictlyIncreasing xs
@@ -94,8 +94,8 @@ head_found h page s ok spells =
     let r = head_read h page s ok spells in
     let is : read_head h page ≡ s = same_head (read_head h page) s r.epoch r.version r.next_sequence r.arcs (ap (λ (k : ℕ). read_items (big_number 4) 4 k (drop (landmarks_at h.format) page)) r.count ∙ r.landmarks) in
     let few : big_number 4 (drop 24 page) ≤ 1000 = omega (arith, r.count, spells.fits.numbers.count_to) in
-    guarded (big_number 4 (drop 24 page)) 1000 (kept (is_head h (read_head h page) && bytes_eq (body page) (head_body h.format (read_head h page))) (read_head h page)) (Some s) few
-    (ap (λ (t : Head). kept (is_head h t && bytes_eq (body page) (head_body h.format t)) t) is
+    guarded (big_number 4 (drop 24 page)) 1000 (kept_if (is_head h (read_head h page) && bytes_eq (body page) (head_body h.format (read_head h page))) (read_head h page)) (Some s) few
+    (ap (λ (t : Head). kept_if (is_head h t && bytes_eq (body page) (head_body h.format t)) t) is
     ∙ kept_true (is_head h s && bytes_eq (body page) (head_body h.format s)) s (and_true _ _ (head_test h s spells.fits) (same_bytes (body page) (head_body h.format s) spells.spelled)))
 
 record_test : (f : Format) (c : Command) → FitsRecord f c → fits_record c ≡ true
@@ -117,7 +117,7 @@ entry_test f e fits =
     and_true _ _ (and_true _ _ numbers (records_whole e.groups)) (pass_all (is_record f) (IsRecord f) (one_test f) (records_in e.groups) fits.records.each)
 
 abbrev kept_entry : Format → List ℕ → ℕ → ℕ → List Record → Option Entry
-kept_entry f page q n rs = kept (are_entry f q n rs && bytes_eq (body page) (records_body q n rs)) (record { sequence = q; first_number = n; groups = grouped rs })
+kept_entry f page q n rs = kept_if (are_entry f q n rs && bytes_eq (body page) (records_body q n rs)) (record { sequence = q; first_number = n; groups = grouped rs })
 
 same_kept : (f : Format) (page : List ℕ) (q q' n n' : ℕ) (rs : List Record) → q ≡ q' → n ≡ n' → kept_entry f page q n rs ≡ kept_entry f page q' n' rs
 same_kept f page q q' n n' rs p r = rw (p, r) refl

@@ -21,7 +21,7 @@ use Rattle.pages.specs.Contents.{Entry}
 use Rattle.pages.specs.Spelling.{header_fields, SpelledHeader, ends_of, word_of}
 use Rattle.pages.specs.declared.content.Format.{Format}
 use Rattle.pages.specs.declared.content.Format.TheVariants.{One, Two}
-use Rattle.pages.specs.Formats.{number_of, room_field}
+use Rattle.pages.specs.Formats.{format_number_of, room_field}
 use Rattle.pages.specs.Layout.{places_in_use, arc_pages, word_pages, end_pages, head_page_at, page_count}
 use Rattle.storefile.proofs.Names.{arc_page_at, word_page_at, end_page_at}
 use Rattle.storefile.specs.StoreFile.{part, is_open, journal_page_at, head_of, Stored, groups_of, first_field, is_standing, IsCurrent, HoldsJournal, Stores}
@@ -121,13 +121,13 @@ pub both_ends : (n : ℕ) (arcs : List RoadArc) → map ends_of (take n arcs) ++
 both_ends n arcs = sym (map-append ends_of (take n arcs) (drop n arcs)) ∙ ap (map ends_of) (take-append-drop n arcs)
 
 -- the number of its format is read in a page that spells a header
-pub format_found : (page : List ℕ) (h : Header) → SpelledHeader page h → big_number 4 (drop 8 page) ≡ number_of h.format
+pub format_found : (page : List ℕ) (h : Header) → SpelledHeader page h → big_number 4 (drop 8 page) ≡ format_number_of h.format
 format_found page h spells =
     let b = begins page (header_fields h) (omega arith) spells.spelled in
     ap (λ (xs : List ℕ). big_number 4 (drop 8 xs)) b.1
-    ∙ big_number-reads_back 4 (number_of h.format) (big_bytes 4 h.nodes ++ big_bytes 4 h.arcs ++ big_bytes 4 h.journal_pages ++ big_bytes 4 (room_field h.format h.room) ++ b.0) (number_fits h.format)
+    ∙ big_number-reads_back 4 (format_number_of h.format) (big_bytes 4 h.nodes ++ big_bytes 4 h.arcs ++ big_bytes 4 h.journal_pages ++ big_bytes 4 (room_field h.format h.room) ++ b.0) (number_fits h.format)
   where
-    number_fits : (f : Format) → number_of f < 2 ^ 32
+    number_fits : (f : Format) → format_number_of f < 2 ^ 32
     number_fits One = omega arith
     number_fits Two = omega arith
 
@@ -145,7 +145,7 @@ opened_whole size pages s final is done =
     let magic : (nat_le 4096 size && bytes_eq (take 8 (pages 0)) (codes "ROADMRK1") && is_open (pages 0)) ≡ true = and_true _ _ (and_true _ _ (le-leb 4096 size big) (same_bytes _ _ (ap (take 8) b.1))) is.opened in
     let head : header_in (pages 0) ≡ Some s.header = header_found (pages 0) s.header is.header in
     let sized : (size == 4096 * page_count s.header) ≡ true = eq-eqb size (4096 * page_count s.header) is.size_is in
-    let one : (big_number 4 (drop 8 (pages 0)) == number_of s.header.format) ≡ true = eq-eqb (big_number 4 (drop 8 (pages 0))) (number_of s.header.format) (format_found (pages 0) s.header is.header) in
+    let one : (big_number 4 (drop 8 (pages 0)) == format_number_of s.header.format) ≡ true = eq-eqb (big_number 4 (drop 8 (pages 0))) (format_number_of s.header.format) (format_found (pages 0) s.header is.header) in
     let ends : all_spelled (λ i. arcs_in s.header.nodes (places_in_use 511 i s.header.arcs) (pages (arc_page_at i))) arc_page_at 0 (arc_pages s.header) ≡ Ok (map ends_of (take s.header.arcs s.network.arcs)) =
     all_found (λ i. arcs_in s.header.nodes (places_in_use 511 i s.header.arcs) (pages (arc_page_at i))) arc_page_at 511 (map ends_of (take s.header.arcs s.network.arcs)) (arc_pages s.header) 0
     (λ j le lt. arcs_found s.header.nodes (places_in_use 511 j s.header.arcs) (pages (arc_page_at j)) (map ends_of (part 511 j (take s.header.arcs s.network.arcs))) (omega (arith, is.header.fits.nodes_to)) (is.arcs.each j (omega arith))

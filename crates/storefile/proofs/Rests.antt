@@ -10,7 +10,7 @@ use Rattle.pages.specs.declared.content.Format.TheVariants.{Two}
 use Rattle.pages.specs.declared.content.Slot.{Slot}
 use Rattle.storefile.specs.StoreFile.{page, Stored, HoldsJournal, groups_of, next_sequence}
 use Rattle.storefile.specs.Judging.{opened, opened_in}
-use Rattle.storefile.specs.Standing.{IsStoredAs, Standing, standing_in, standing_of, HasFitNumbers}
+use Rattle.storefile.specs.Standing.{IsStoredAs, Standing, standing_in, standing_of, HasFitStoreNumbers}
 use Rattle.pages.specs.Grouping.{records_in}
 use Rattle.storefile.proofs.Opening.{opened_whole}
 use Rattle.storefile.proofs.Whole.{opened_is}
@@ -55,13 +55,13 @@ pages_to pages h q v (cs ∷ css) holds =
     omega (arith, rest, some_group cs holds.1.fits.records.some, length-append cs (flat_map (λ xs. xs) css))
 
 -- The numbers of what a file is stored as are within what its pages can spell.
-pub fit_numbers : (file : List ℕ) (h : Header) (slot : Slot) (epoch : ℕ) (net : Net) (version next unchecked : ℕ) → IsStoredAs file h slot epoch net version next unchecked → HasFitNumbers h epoch version next unchecked
+pub fit_numbers : (file : List ℕ) (h : Header) (slot : Slot) (epoch : ℕ) (net : Net) (version next unchecked : ℕ) → IsStoredAs file h slot epoch net version next unchecked → HasFitStoreNumbers h epoch version next unchecked
 fit_numbers file h slot epoch net version next unchecked held =
     let s = held.stored in
     let is = held.stands.is in
     let many = pages_to (page file) held.stored.header held.stored.sequence held.stored.version held.stored.unchecked held.stands.is.journal in
     let numbers = held.stands.is.held.head_is.fits.numbers in
-    subst (λ (x : Header). HasFitNumbers x epoch version next unchecked) held.header_is (record {
+    subst (λ (x : Header). HasFitStoreNumbers x epoch version next unchecked) held.header_is (record {
       header = held.stands.is.header.fits;
       version_to = omega (arith, held.stands.gives.version_is, held.stands.is.versions_to);
       next_to = omega (arith, held.stands.gives.version_is, held.stands.next_is, many, numbers.sequence_to);

@@ -21,7 +21,7 @@ use Rattle.pages.specs.Spelling.{body, IsHeader, SpelledHeader, arc_page, Spelle
 use Rattle.pages.specs.declared.content.Format.{Format}
 use Rattle.pages.specs.declared.content.Format.TheVariants.{One, Two}
 use Rattle.pages.specs.declared.content.Record.{Record}
-use Rattle.pages.specs.Formats.{IsRoomFor, landmarks_at}
+use Rattle.pages.specs.Formats.{IsHeaderRoomFor, landmarks_at}
 use Rattle.pages.specs.Grouping.{grouped, are_whole, is_of_format}
 use Rattle.pages.proofs.Grouped.{groups_some, records_again}
 use Rattle.pages.proofs.Records.{record_of_format}
@@ -29,7 +29,7 @@ use Rattle.storefile.proofs.Names.{header_body, head_body, records_body}
 use Rattle.pages.specs.Reading.{read_header, read_items, read_ends, read_word, read_records, is_ends}
 use Rattle.storefile.specs.StoreFile.{is_open, first_field, IsCurrent}
 use Rattle.pages.specs.Layout.{head_page_at}
-use Rattle.storefile.specs.Judging.{◌>>=◌, unless_so, spelled_at, all_spelled, kept, is_room_for, is_header, header_in, arcs_in, words_in, is_ascending, read_head, is_head, head_in, fits_record, is_record, are_entry, entry_with, entry_in, current_slot, arc_from}
+use Rattle.storefile.specs.Judging.{◌>>=◌, unless_so, spelled_at, all_spelled, kept_if, is_room_for, is_header, header_in, arcs_in, words_in, is_ascending, read_head, is_head, head_in, fits_record, is_record, are_entry, entry_with, entry_in, current_slot, arc_from}
 use Rattle.pages.proofs.Items.{length-read}
 use Rattle.pages.proofs.Padding.{both}
 use Rattle.pages.proofs.Places.{are_ends, all_pass}
@@ -49,7 +49,7 @@ pub spelled_ok : {X : Type 0} (k : ℕ) (o : Option X) (x : X) → spelled_at k 
 spelled_ok k None x e = absurd cc
 spelled_ok k (Some y) x e = let same : y ≡ x = cc in ap (λ z. Some z) same
 
-kept_ok : {X : Type 0} (b : Bool) (x y : X) → kept b x ≡ Some y → (b ≡ true) × (x ≡ y)
+kept_ok : {X : Type 0} (b : Bool) (x y : X) → kept_if b x ≡ Some y → (b ≡ true) × (x ≡ y)
 kept_ok true x y e = (refl, cc)
 kept_ok false x y e = absurd cc
 
@@ -66,7 +66,7 @@ equal xs ys e = (bytes_eq-Decides xs ys).0 e
 
 -- ---- what is found is spelled
 
-room_from : (f : Format) (arcs room : ℕ) → is_room_for f arcs room ≡ true → IsRoomFor f arcs room
+room_from : (f : Format) (arcs room : ℕ) → is_room_for f arcs room ≡ true → IsHeaderRoomFor f arcs room
 room_from One arcs room e = λ one. eqb-true room arcs e
 room_from Two arcs room e = λ one. absurd cc
 
@@ -135,7 +135,7 @@ head_from h s few e =
 
 pub head_spelled : (h : Header) (page : List ℕ) (s : Head) → head_in h page ≡ Some s → SpelledHead h page s
 head_spelled h page s e =
-    let g = guard_ok (nat_le (big_number 4 (drop 24 page)) 1000) (kept (is_head h (read_head h page) && bytes_eq (body page) (head_body h.format (read_head h page))) (read_head h page)) s e in
+    let g = guard_ok (nat_le (big_number 4 (drop 24 page)) 1000) (kept_if (is_head h (read_head h page) && bytes_eq (body page) (head_body h.format (read_head h page))) (read_head h page)) s e in
     let few : big_number 4 (drop 24 page) ≤ 1000 = leb-true _ _ g.0 in
     let k = kept_ok (is_head h (read_head h page) && bytes_eq (body page) (head_body h.format (read_head h page))) (read_head h page) s g.1 in
     let b = both (is_head h (read_head h page)) (bytes_eq (body page) (head_body h.format (read_head h page))) k.0 in

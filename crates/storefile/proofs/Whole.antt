@@ -20,7 +20,7 @@ use Rattle.pages.specs.Spelling.{SpelledHeader, SpelledArcs, SpelledWords, Spell
 use Rattle.roadnet.specs.declared.arcs.RoadArc.{RoadArc}
 use Rattle.pages.specs.declared.content.Format.{Format}
 use Rattle.pages.specs.declared.content.Format.TheVariants.{One, Two}
-use Rattle.pages.specs.Formats.{number_of}
+use Rattle.pages.specs.Formats.{format_number_of}
 use Rattle.pages.specs.Layout.{places_in_use, arc_pages, word_pages, end_pages, head_page_at, page_count}
 use Rattle.storefile.proofs.Names.{arc_page_at, word_page_at, end_page_at}
 use Rattle.storefile.specs.StoreFile.{part, is_open, Stored, groups_of, IsCurrent, Stores}
@@ -113,7 +113,7 @@ assemble size pages h ends laid slot head words j opened header sized ends_are c
     )
 
 -- the format of a header is that of the number which it is read by
-format_by : (f g : Format) → number_of f ≡ number_of g → f ≡ g
+format_by : (f g : Format) → format_number_of f ≡ format_number_of g → f ≡ g
 format_by One One e = refl
 format_by One Two e = absurd (omega arith)
 format_by Two One e = absurd (omega arith)
@@ -122,7 +122,7 @@ format_by Two Two e = refl
 pub opened_is : (format : Format) (size : ℕ) (pages : ℕ → List ℕ) (x : Stored × Net) → opened_from format size pages ≡ Ok x → Stores size pages x.0 × (after x.0.network (groups_of x.0) ≡ Some x.1) × (x.0.header.format ≡ format)
 opened_is format size pages x e =
     after_step (unless_so (nat_le 4096 size && bytes_eq (take 8 (pages 0)) (codes "ROADMRK1") && is_open (pages 0)) NotAStore) _ x e (λ u0 p0 e0.
-    after_step (unless_so (big_number 4 (drop 8 (pages 0)) == number_of format) WrongFormat) _ x e0 (λ u1 p1 e1.
+    after_step (unless_so (big_number 4 (drop 8 (pages 0)) == format_number_of format) WrongFormat) _ x e0 (λ u1 p1 e1.
     after_step (spelled_at 0 (header_in (pages 0))) _ x e1 (λ h p2 e2.
     after_step (unless_so (size == 4096 * page_count h) (Damaged 0)) _ x e2 (λ u3 p3 e3.
     after_step (all_spelled (λ i. arcs_in h.nodes (places_in_use 511 i h.arcs) (pages (arc_page_at i))) arc_page_at 0 (arc_pages h)) _ x e3 (λ ends p4 e4.

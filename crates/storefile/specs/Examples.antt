@@ -26,9 +26,9 @@ opened_page page = body page ++ open_byte ∷ []
 abbrev pub blank_page : List ℕ
 blank_page = replicate page_size 0
 
-abbrev pub file_of : List (List ℕ) → List ℕ
-file_of [] = []
-file_of (page ∷ pages) = page ++ file_of pages
+abbrev pub file_of_pages : List (List ℕ) → List ℕ
+file_of_pages [] = []
+file_of_pages (page ∷ pages) = page ++ file_of_pages pages
 
 abbrev pub new_head : Head
 new_head = record { epoch = 1; version = 0; next_sequence = 0; arcs = 8; landmarks = [] }
@@ -41,7 +41,7 @@ six_words = open_word 17 ∷ open_word 10 ∷ open_word 2 ∷ open_word 0 ∷ op
 
 -- the store of the six nodes after its creation, with room for its arcs alone, with this header, this head of slot B and these journal pages
 abbrev pub six_file : List ℕ → List ℕ → List (List ℕ) → List ℕ
-six_file header slot_b journal = file_of (header ∷ arc_page six_ends ∷ opened_page (head_page Two new_head) ∷ word_page six_words ∷ slot_b ∷ blank_page ∷ journal)
+six_file header slot_b journal = file_of_pages (header ∷ arc_page six_ends ∷ opened_page (head_page Two new_head) ∷ word_page six_words ∷ slot_b ∷ blank_page ∷ journal)
 
 -- with 64 journal pages, the first of which is this
 abbrev pub sixty_four : List ℕ → List ℕ
@@ -53,7 +53,7 @@ created = sixty_four blank_page
 -- with room for ten, slot A of this head, words and ends, and with this first page of 64
 abbrev pub roomy : List ℕ → List ℕ → List ℕ → List ℕ → List ℕ
 roomy head words ends first =
-    file_of (opened_page (header_page (six 10 64)) ∷ arc_page six_ends ∷ opened_page head ∷ words ∷ ends ∷ blank_page ∷ blank_page ∷ blank_page ∷ first ∷ replicate 63 blank_page)
+    file_of_pages (opened_page (header_page (six 10 64)) ∷ arc_page six_ends ∷ opened_page head ∷ words ∷ ends ∷ blank_page ∷ blank_page ∷ blank_page ∷ first ∷ replicate 63 blank_page)
 
 -- nine arcs, the last of which was laid
 abbrev pub nine_head : Head
@@ -61,7 +61,7 @@ nine_head = record { epoch = 1; version = 1; next_sequence = 1; arcs = 9; landma
 
 -- the same store in format 1, with this first journal page
 abbrev pub old_file : List ℕ → List ℕ
-old_file first = file_of (opened_page (header_page (old_six 64)) ∷ arc_page six_ends ∷ opened_page (head_page One new_head) ∷ word_page six_words ∷ blank_page ∷ blank_page ∷ first ∷ replicate 63 blank_page)
+old_file first = file_of_pages (opened_page (header_page (old_six 64)) ∷ arc_page six_ends ∷ opened_page (head_page One new_head) ∷ word_page six_words ∷ blank_page ∷ blank_page ∷ first ∷ replicate 63 blank_page)
 
 -- the slot, its epoch, the version, the number of arcs and that of unchecked pages
 abbrev pub standing : Result (Stored × Net) Refusal → Option (Slot × ℕ × ℕ × ℕ × ℕ)

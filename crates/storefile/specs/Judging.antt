@@ -20,7 +20,7 @@ use Rattle.pages.specs.declared.content.Slot.{Slot}
 use Rattle.pages.specs.declared.content.Slot.TheVariants.{A, B}
 use Rattle.pages.specs.Contents.{Head, Entry}
 use Rattle.pages.specs.Spelling.{body, header_page, arc_page, word_page, head_page, records_page}
-use Rattle.pages.specs.Formats.{number_of, arcs_read, landmarks_at}
+use Rattle.pages.specs.Formats.{format_number_of, arcs_read, landmarks_at}
 use Rattle.pages.specs.Grouping.{grouped, are_whole, is_of_format}
 use Rattle.pages.specs.Reading.{read_header, read_records, read_items, read_ends, read_word, is_ends}
 use Rattle.pages.specs.Layout.{Arcs, HeadOf, Words, EndsOf, places_in_use, arc_pages, word_pages, end_pages, page_number, page_count}
@@ -29,8 +29,8 @@ use Rattle.pages.specs.Limits.{page_size, magic, most_versions, most_commands}
 
 -- ---- the content that a page spells, if it spells one: what is read at the places of its fields, where the page is spelled so
 
-abbrev pub kept : {X : Type 0} → Bool → X → Option X
-kept spelled content = if spelled then Some content else None
+abbrev pub kept_if : {X : Type 0} → Bool → X → Option X
+kept_if spelled content = if spelled then Some content else None
 
 abbrev pub is_room_for : Format → ℕ → ℕ → Bool
 is_room_for One arcs room = room == arcs
@@ -40,15 +40,15 @@ abbrev pub is_header : Header → Bool
 is_header h = nat_le 1 h.nodes && nat_le h.nodes 33554432 && nat_le h.arcs h.room && nat_le h.room 67108864 && is_room_for h.format h.arcs h.room && nat_le 1 h.journal_pages && nat_le h.journal_pages 65536
 
 abbrev pub header_in : List ℕ → Option Header
-header_in page = let h = read_header page in kept (is_header h && bytes_eq (body page) (body (header_page h))) h
+header_in page = let h = read_header page in kept_if (is_header h && bytes_eq (body page) (body (header_page h))) h
 
 -- the ends of so many arcs, in a network of so many nodes
 abbrev pub arcs_in : ℕ → ℕ → List ℕ → Option (List Ends)
-arcs_in nodes count page = let arcs = read_items read_ends 8 count page in kept (list_all (is_ends nodes) arcs && bytes_eq page (arc_page arcs)) arcs
+arcs_in nodes count page = let arcs = read_items read_ends 8 count page in kept_if (list_all (is_ends nodes) arcs && bytes_eq page (arc_page arcs)) arcs
 
 -- so many words
 abbrev pub words_in : ℕ → List ℕ → Option (List Word)
-words_in count page = let words = read_items read_word 4 count page in kept (bytes_eq page (word_page words)) words
+words_in count page = let words = read_items read_word 4 count page in kept_if (bytes_eq page (word_page words)) words
 
 abbrev pub is_ascending : List ℕ → Bool
 is_ascending [] = true
@@ -74,7 +74,7 @@ is_head h s =
 abbrev pub head_in : Header → List ℕ → Option Head
 head_in h page =
     if nat_le (big_number 4 (drop 24 page)) 1000
-    then (let s = read_head h page in kept (is_head h s && bytes_eq (body page) (body (head_page h.format s))) s)
+    then (let s = read_head h page in kept_if (is_head h s && bytes_eq (body page) (body (head_page h.format s))) s)
     else None
 
 abbrev pub fits_record : Command → Bool
@@ -98,7 +98,7 @@ abbrev pub entry_with : Format → List ℕ → List Record → Option Entry
 entry_with f page records =
     let q = big_number 8 page in
     let n = big_number 8 (drop 8 page) in
-    kept (are_entry f q n records && bytes_eq (body page) (body (records_page q n records))) (record { sequence = q; first_number = n; groups = grouped records })
+    kept_if (are_entry f q n records && bytes_eq (body page) (body (records_page q n records))) (record { sequence = q; first_number = n; groups = grouped records })
 
 abbrev pub entry_in : Format → List ℕ → Option Entry
 entry_in f page =
@@ -186,7 +186,7 @@ journal_from pages h (suc most) q v net =
 abbrev pub opened_from : Format → ℕ → (ℕ → List ℕ) → Result (Stored × Net) Refusal
 opened_from format size pages = do
   _ ← unless_so (begins_as_store size (pages 0)) NotAStore
-  _ ← unless_so (format_of (pages 0) == number_of format) WrongFormat
+  _ ← unless_so (format_of (pages 0) == format_number_of format) WrongFormat
   h ← spelled_at 0 (header_in (pages 0))
   _ ← unless_so (size == page_size * page_count h) (Damaged 0)
   ends ← ends_from pages h

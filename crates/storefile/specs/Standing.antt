@@ -55,7 +55,7 @@ abbrev pub IsTidyAt : List ℕ → Header → ℕ → Type 0
 IsTidyAt file h next = HasNoLaterPage (page file) h next
 
 -- the numbers of a store, of which none is past what its pages can spell
-pub record HasFitNumbers (h : Header) (epoch version next unchecked : ℕ) : Type 0 where
+pub record HasFitStoreNumbers (h : Header) (epoch version next unchecked : ℕ) : Type 0 where
   pub header : IsHeader h
   pub version_to : version ≤ most_versions
   pub next_to : next ≤ version

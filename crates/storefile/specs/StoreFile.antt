@@ -12,7 +12,7 @@ use Rattle.pages.specs.declared.content.Format.{Format}
 use Rattle.pages.specs.declared.content.Format.TheVariants.{Two}
 use Rattle.pages.specs.Contents.{Head}
 use Rattle.pages.specs.Spelling.{SpelledHeader, SpelledArcs, SpelledWords, SpelledHead, SpelledEntry, ends_of, word_of}
-use Rattle.pages.specs.Layout.{Arcs, HeadOf, Words, EndsOf, Journal, places_in_use, arc_pages, word_pages, end_pages, slot_pages, other, page_number, page_count, place_of}
+use Rattle.pages.specs.Layout.{Arcs, HeadOf, Words, EndsOf, Journal, places_in_use, arc_pages, word_pages, end_pages, slot_pages, other, page_number, page_count, journal_place_of}
 use Rattle.pages.specs.Limits.{page_size, gate_at, most_versions}
 
 -- ---- pages
@@ -37,7 +37,7 @@ first_field page = big_number 8 page
 
 -- the number of the page at the place of this sequence
 abbrev pub journal_page_at : Header → ℕ → ℕ
-journal_page_at h q = page_number h (Journal (place_of h q))
+journal_page_at h q = page_number h (Journal (journal_place_of h q))
 
 -- the page at the place of this sequence is open and has this sequence
 abbrev pub is_standing : (ℕ → List ℕ) → Header → ℕ → Bool
@@ -121,14 +121,14 @@ IsStoreOf file s = Stores (length file) (page file) s
 -- ---- what a file stands for
 
 -- what is stored gives this network at this version: that of the slot with the groups behind it carried out, each a version
-pub record Gives (s : Stored) (net : Net) (version : ℕ) : Type 0 where
+pub record GivesNetwork (s : Stored) (net : Net) (version : ℕ) : Type 0 where
   pub network : after s.network (groups_of s) ≡ Some net
   pub version_is : version ≡ s.version + length (groups_of s)
 
 -- the same, with what is stored shown: the file stores it, it gives this network and version, and the page of this sequence is written next
 pub record HoldsNetwork (file : List ℕ) (s : Stored) (net : Net) (version next : ℕ) : Type 0 where
   pub is : IsStoreOf file s
-  pub gives : Gives s net version
+  pub gives : GivesNetwork s net version
   pub next_is : next ≡ next_sequence s
 
 -- The file, in this format, stands for this network at this version, and the page of this sequence is written next.

@@ -17,14 +17,14 @@ use Rattle.storetexts.specs.declared.applying.Applying.{Applying}
 use Rattle.storetexts.specs.declared.outcomes.Outcome.{Outcome}
 use Rattle.storetexts.specs.Outcomes.{IsUnsettledAt}
 use Rattle.storetexts.specs.Applied.{IfNotWrite}
-use Rattle.storetexts.specs.Applying.{IsSteady, IsCutOffBy, Leaves, Goes, Saves, Advances}
+use Rattle.storetexts.specs.Applying.{IsSteady, IsCutOffBy, LeavesLedger, Goes, Saves, Advances}
 use Rattle.storetexts.proofs.Meanwhile.{goes_both, counts_from, counts_code}
 
 -- the ledger stays, and so do the outcomes
 goes_told : {D : Type 0} (disk : Ghosts D) (old mid new : Applying D) → new.ledger ≡ mid.ledger → new.outcomes ≡ mid.outcomes → Goes disk old mid → Goes disk old new
 goes_told disk old mid new same outcomes a = record {
   steady = subst (λ (k : LedgerState _). IsSteady k.machine) (sym same) a.steady;
-  leaves = subst (λ (k : LedgerState _). Leaves disk old.ledger k) (sym same) a.leaves;
+  leaves = subst (λ (k : LedgerState _). LeavesLedger disk old.ledger k) (sym same) a.leaves;
   given = ap (λ (k : LedgerState _). k.given) same ∙ a.given;
   honest = (
     λ now. a.honest.0 (subst (λ (k : LedgerState _). disk.honest k.disk) same now),

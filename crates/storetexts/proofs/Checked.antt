@@ -11,11 +11,11 @@ use Rattle.printing.specs.declared.failed.Failed.{Failed}
 use Rattle.printing.specs.declared.failed.Failed.TheVariants.{Code}
 use Rattle.store.specs.declared.stores.standing.Standing.{Standing}
 use Rattle.store.specs.Inspecting.{HasStanding}
-use Rattle.storetexts.specs.Asked.{IsUnopened}
+use Rattle.storetexts.specs.Asked.{IsStoreUnopened}
 use Rattle.storetexts.specs.Checked.{standing_lines, IsChecked, IsRefusedCheck}
 use Rattle.storetexts.specs.Refused.{IfNoMemory, CountsDevice}
 
-pub unopened : (Honest : Type 0) (file : List ℕ) (refusal : Refusal) → IsUnopened Honest file refusal → IsRefusedCheck Honest file (Code refusal)
+pub unopened : (Honest : Type 0) (file : List ℕ) (refusal : Refusal) → IsStoreUnopened Honest file refusal → IsRefusedCheck Honest file (Code refusal)
 unopened Honest file Write may = absurd (let never : false ≡ true = may.0 in cc)
 unopened Honest file _ may = may
 

@@ -11,7 +11,7 @@ use Rattle.roadnet.specs.declared.commands.Command.TheVariants.{Mark}
 use Rattle.roadnet.specs.Members.{set_of, with_member, is_member}
 use Rattle.roadnet.specs.declared.refusals.Refusal.{Refusal}
 use Rattle.roadnet.specs.Net.{Net, IsNode, most_landmarks}
-use Rattle.roadnet.specs.Step.{refusal_of, is_node, MayRefuse}
+use Rattle.roadnet.specs.Step.{refusal_of, is_node, MayRefuseCommand}
 use Rattle.dimacs.specs.Landmarks.{AreNodes}
 use Rattle.storetexts.specs.Created.{with_landmarks, IsRefusedMarking}
 use Rattle.roadnet.proofs.Members.{All-set_of, set_of_more, length-with_member}
@@ -49,7 +49,7 @@ none_refused net marks i x up nodes few lt is =
     rw is (rw (node, new, room) refl)
 
 pub only_memory : (net old : Net) (marks : List ℕ) (i x : ℕ) (refusal : Refusal) → IsStrictlyIncreasing marks → AreNodes net.nodes marks → length marks ≤ most_landmarks → i < length marks
-    → x ≡ get_or marks i 0 → old ≡ with_landmarks net (set_of (take i marks)) → MayRefuse old (Mark x) refusal → IsRefusedMarking marks refusal
+    → x ≡ get_or marks i 0 → old ≡ with_landmarks net (set_of (take i marks)) → MayRefuseCommand old (Mark x) refusal → IsRefusedMarking marks refusal
 only_memory net old marks i x refusal up nodes few lt is so_far (inl cause) =
     let none = none_refused net marks i x up nodes few lt is in
     let some : refusal_of (with_landmarks net (set_of (take i marks))) (Mark x) ≡ Some refusal = ap (λ (n : Net). refusal_of n (Mark x)) (sym so_far) ∙ cause in

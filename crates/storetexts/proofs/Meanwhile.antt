@@ -21,7 +21,7 @@ use Rattle.printing.specs.declared.failed.Failed.{Failed}
 use Rattle.printing.specs.declared.failed.Failed.TheVariants.{Code}
 use Rattle.store.specs.State.{CameTidy}
 use Rattle.storetexts.specs.Applied.{StandsForBeginning}
-use Rattle.storetexts.specs.Applying.{IsSteady, IsReady, KeepsAccepted, StandsForMachine, Leaves, Goes}
+use Rattle.storetexts.specs.Applying.{IsSteady, IsReady, KeepsAccepted, StandsForMachine, LeavesLedger, Goes}
 use Rattle.storetexts.specs.declared.applying.Applying.{Applying}
 use Rattle.storetexts.specs.Refused.{CountsDevice}
 
@@ -107,27 +107,27 @@ module _ {D : Type 0} (disk : Ghosts D) where
   grown : (first now : D) (m n : Machine) → Grows m n → LeavesOnly disk.moment disk.left_since first now (LeftOr first m) → LeavesOnly disk.moment disk.left_since first now (LeftOr first n)
   grown first now m n g was = weaker disk.moment disk.left_since first now (LeftOr first m) (LeftOr first n) was (λ c. ⊎_elim (λ left. inl left) (λ stands. inr (in_more m n g c stands)))
 
-  pub leaves_both : (old mid new : LedgerState D) → mid.given ≡ old.given → Leaves disk old mid → Leaves disk mid new → Leaves disk old new
+  pub leaves_both : (old mid new : LedgerState D) → mid.given ≡ old.given → LeavesLedger disk old mid → LeavesLedger disk mid new → LeavesLedger disk old new
   leaves_both old mid new given a b came first was = b (subst (CameTidy disk.honest disk.content) (sym given) came) first (a came first was)
 
-  pub leaves_same : (old new : LedgerState D) → new.disk ≡ old.disk → Grows old.machine new.machine → Leaves disk old new
+  pub leaves_same : (old new : LedgerState D) → new.disk ≡ old.disk → Grows old.machine new.machine → LeavesLedger disk old new
   leaves_same old new same g came first was = subst (λ (d : D). LeavesOnly disk.moment disk.left_since first d (LeftOr first new.machine)) (sym same) (grown first old.disk old.machine new.machine g was)
 
   leaves_by : (old new : LedgerState D) (P : List ℕ → Type 0) → ((c : List ℕ) → P c → StandsForMachine old.machine c) → Grows old.machine new.machine
-      → (CameTidy disk.honest disk.content old.given → LeavesOnly disk.moment disk.left_since old.disk new.disk P) → Leaves disk old new
+      → (CameTidy disk.honest disk.content old.given → LeavesOnly disk.moment disk.left_since old.disk new.disk P) → LeavesLedger disk old new
   leaves_by old new P f g leaves came first was =
       and_then disk.moment disk.left_since first old.disk new.disk (LeftOr first new.machine) P (grown first old.disk old.machine new.machine g was) (leaves came)
       (λ c p. inr (in_more old.machine new.machine g c (f c p)))
 
   pub leaves_flush : (old new : LedgerState D) (r : Result ℕ Refusal) → Flushes old.machine r new.machine → IsReady old.machine
       → (CameTidy disk.honest disk.content old.given → old.machine.broken ≡ false → LeavesOnly disk.moment disk.left_since old.disk new.disk (IsDurableIn (failed old.machine (batch old.machine))))
-      → Leaves disk old new
+      → LeavesLedger disk old new
   leaves_flush old new r step ready leaves =
       leaves_by old new (IsDurableIn (failed old.machine (batch old.machine))) (in_flight_within old.machine ready.steady.state) (grows_flush old.machine new.machine r step) (λ came. leaves came ready.calm)
 
   pub leaves_checkpoint : (old new : LedgerState D) → KeepsAccepted old.machine new.machine → IsReady old.machine
       → (CameTidy disk.honest disk.content old.given → old.machine.broken ≡ false → LeavesOnly disk.moment disk.left_since old.disk new.disk (IsDurableIn old.machine))
-      → Leaves disk old new
+      → LeavesLedger disk old new
   leaves_checkpoint old new kept ready leaves =
       leaves_by old new (IsDurableIn old.machine) (durable_within old.machine ready.steady.state) (grows_kept old.machine new.machine kept) (λ came. leaves came ready.calm)
 

@@ -17,7 +17,7 @@ use Rattle.printing.specs.Replied.{number_line}
 use Rattle.printing.specs.declared.failed.Failed.{Failed}
 use Rattle.printing.specs.declared.failed.Failed.TheVariants.{Code}
 use Rattle.printing.specs.declared.writer.CountedWriter.{CountedWriter}
-use Rattle.storetexts.specs.Moved.{CountsMove, HasVersionIn, IsMoved, IsOfMove, IsRefusedForNew, IsRefusedForOld, TellsMoved}
+use Rattle.storetexts.specs.Moved.{CountsMove, HasVersionIn, IsMoved, IsOfMove, IsMoveRefusedForNew, IsMoveRefusedForOld, TellsMoved}
 use Rattle.storetexts.specs.Refused.{IfDone, IfNoDevice}
 use Rattle.storetexts.proofs.Made.{done_any}
 
@@ -27,11 +27,11 @@ nothing_done : (refusal : Refusal) (P : Type 0) → MayEndCopying refusal → If
 nothing_done Write P ends = absurd cc
 nothing_done _ P ends = tt
 
-new_so : (new : List ℕ) (refusal : Refusal) → MayEndCopying refusal → refused_for_new new refusal → IsRefusedForNew new (Code refusal)
+new_so : (new : List ℕ) (refusal : Refusal) → MayEndCopying refusal → refused_for_new new refusal → IsMoveRefusedForNew new (Code refusal)
 new_so new Write ends may = absurd cc
 new_so new _ ends may = may
 
-old_so : (format : Format) (old : List ℕ) (room : Option ℕ) (refusal : Refusal) → MayEndCopying refusal → refused_for_old format old room refusal → IsRefusedForOld format old room (Code refusal)
+old_so : (format : Format) (old : List ℕ) (room : Option ℕ) (refusal : Refusal) → MayEndCopying refusal → refused_for_old format old room refusal → IsMoveRefusedForOld format old room (Code refusal)
 old_so format old room Write ends may = absurd cc
 old_so format old room _ ends may = may
 
@@ -106,14 +106,14 @@ module _ {D : Type 0} where
   all_told (Err refused) r Honest format old room journal before after copied written told = rw told tt
 
   pub all_for_new : (made : Made D) (r : Result (Unit {0}) Failed) (new : List ℕ) → OnOk made (new ≡ []) → IfErr made (λ refused. refused_for_new new refused.0) → IfErr made (λ refused. MayEndCopying refused.0)
-      → OnOk made (IfErr r (λ failed. failed ≡ Code Write)) → IsToldOf made r → IfErr r (IsRefusedForNew new)
-  all_for_new (Ok store) r new empty may ends failed told = only_written r (IsRefusedForNew new) empty failed
+      → OnOk made (IfErr r (λ failed. failed ≡ Code Write)) → IsToldOf made r → IfErr r (IsMoveRefusedForNew new)
+  all_for_new (Ok store) r new empty may ends failed told = only_written r (IsMoveRefusedForNew new) empty failed
   all_for_new (Err refused) r new empty may ends failed told = rw told (new_so new refused.0 ends may)
 
   pub all_for_old : (made : Made D) (r : Result (Unit {0}) Failed) (format : Format) (old : List ℕ) (room journal : Option ℕ) → IfOk made (λ store. IsCopyIn format old store.network store.version store.journal_pages room journal)
       → IfErr made (λ refused. refused_for_old format old room refused.0) → IfErr made (λ refused. MayEndCopying refused.0) → OnOk made (IfErr r (λ failed. failed ≡ Code Write)) → IsToldOf made r
-      → IfErr r (IsRefusedForOld format old room)
-  all_for_old (Ok store) r format old room journal copied may ends failed told = only_written r (IsRefusedForOld format old room) (store.version, version_of format old room journal store copied) failed
+      → IfErr r (IsMoveRefusedForOld format old room)
+  all_for_old (Ok store) r format old room journal copied may ends failed told = only_written r (IsMoveRefusedForOld format old room) (store.version, version_of format old room journal store copied) failed
   all_for_old (Err refused) r format old room journal copied may ends failed told = rw told (old_so format old room refused.0 ends may)
 
   pub all_of_move : (made : Made D) (r : Result (Unit {0}) Failed) → IfErr made (λ refused. MayEndCopying refused.0) → OnOk made (IfErr r (λ failed. failed ≡ Code Write)) → IsToldOf made r → IfErr r IsOfMove

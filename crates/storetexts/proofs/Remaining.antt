@@ -9,7 +9,7 @@ use Rattle.roadnet.specs.Groups.{count_of}
 use Rattle.roadnet.specs.Net.{Net}
 use Rattle.roadnet.specs.Step.{after}
 use Rattle.dimacs.specs.Commanded.{group_text}
-use Rattle.dimacs.specs.Texts.{Source, Reads}
+use Rattle.dimacs.specs.Texts.{Source, ReadsText}
 use Rattle.storefile.specs.StoreFile.{StandsTidyFor}
 use Rattle.machine.specs.Machine.{Machine, latest, pending, network_at}
 use Rattle.machine.specs.Lives.{HoldsDurable}
@@ -21,25 +21,25 @@ use Rattle.printing.specs.declared.failed.Failed.TheVariants.{Code}
 use Rattle.roadnet.specs.declared.refusals.Refusal.TheVariants.{Write}
 use Rattle.storetexts.specs.declared.outcomes.Outcome.{Outcome}
 use Rattle.storetexts.specs.declared.outcomes.Outcome.TheVariants.{Accepted, Refused}
-use Rattle.storetexts.specs.Outcomes.{ComesTo, accepted_in, outcome_lines, IsSettled, IsUnsettledAt}
-use Rattle.storetexts.specs.Applied.{StandsForAccepted, AppliesAll, IsApplied, KeepsTold, TellsFront, AppliesSome, IsCutOff, IfNotWrite, TellsAll, StandsForBeginning, StandsForBeginningOfGroups}
+use Rattle.storetexts.specs.Outcomes.{ComesTo, accepted_outcomes, outcome_lines, IsGroupSettled, IsUnsettledAt}
+use Rattle.storetexts.specs.Applied.{StandsForAccepted, AppliesAll, IsApplied, KeepsOutcomes, TellsFront, AppliesSome, IsCutOff, IfNotWrite, TellsAll, StandsForBeginning, StandsForBeginningOfGroups}
 use Rattle.storetexts.specs.Applying.{IsSteady, GroupsTaken, FirstGroupsTaken, KeepsAccepted, LinesTold, IfTold, IfEndedEarly, StandsForMachine}
 use Rattle.storetexts.proofs.Comings.{IsPlace, place, as_many}
 use Rattle.storetexts.proofs.Stepping.{latest_is, settled_all, come_kept, come_told}
 
-settled_later : (a b : ℕ) → a ≤ b → (o : Outcome) → IsSettled a o → IsSettled b o
+settled_later : (a b : ℕ) → a ≤ b → (o : Outcome) → IsGroupSettled a o → IsGroupSettled b o
 settled_later a b le (Accepted n) s = omega (arith, s, le)
 settled_later a b le (Refused r) s = tt
 
 module _ (net : Net) (version told : ℕ) (cs : List Group) (os : List Outcome) (m : Machine) (h : GroupsTaken net version cs os told m) (s : IsSteady m) where
-  network_there : (v : ℕ) → network_at m v ≡ after net (take (v - version) (accepted_in cs os))
+  network_there : (v : ℕ) → network_at m v ≡ after net (take (v - version) (accepted_outcomes cs os))
   network_there v =
       ap (λ (n : Net). after n (take (v - m.base_version) m.accepted)) h.base_is
       ∙ (ap (λ (b : ℕ). after net (take (v - b) m.accepted)) h.version_is
       ∙ ap (λ (l : List Group). after net (take (v - version) l)) h.accepted_is)
 
   -- a content that holds what is durable keeps what was told
-  pub kept_told : (content : List ℕ) → HoldsDurable (StandsTidyFor m.sizes.journal_pages m.sizes.checkpoint_pages) m content → KeepsTold net version cs os told m.durable content
+  pub kept_told : (content : List ℕ) → HoldsDurable (StandsTidyFor m.sizes.journal_pages m.sizes.checkpoint_pages) m content → KeepsOutcomes net version cs os told m.durable content
   kept_told content held =
       let v = held.version in
       let between = left_between m s.state v held.left in
@@ -47,7 +47,7 @@ module _ (net : Net) (version told : ℕ) (cs : List Group) (os : List Outcome) 
       let to : v ≤ latest m = between.1 in
       let base : m.base_version ≤ m.durable = let a = s.state.base_opened in let b = s.state.opened_shown in let d = s.state.shown_durable in omega (arith, a, b, d) in
       let p : IsPlace net version v told cs os = place 0 net version v told cs os h.come (omega (arith, base, from, h.version_is)) (omega (arith, to, latest_is net version told cs os m h)) h.told_to
-      (All-weaker (IsSettled m.durable) (IsSettled v) (settled_later m.durable v from) (take told os) h.settled) in
+      (All-weaker (IsGroupSettled m.durable) (IsGroupSettled v) (settled_later m.durable v from) (take told os) h.settled) in
       record {
         kept = p.kept;
         told_kept = p.told_kept;
@@ -63,7 +63,7 @@ module _ (net : Net) (version told : ℕ) (cs : List Group) (os : List Outcome) 
       }
 
 -- where all is told, it keeps all
-pub kept_all : (net : Net) (version durable : ℕ) (cs : List Group) (os : List Outcome) (content : List ℕ) → ComesTo 0 net version cs os → KeepsTold net version cs os (length os) durable content → StandsForAccepted net version cs os content
+pub kept_all : (net : Net) (version durable : ℕ) (cs : List Group) (os : List Outcome) (content : List ℕ) → ComesTo 0 net version cs os → KeepsOutcomes net version cs os (length os) durable content → StandsForAccepted net version cs os content
 kept_all net version durable cs os content come k =
     let long : length os ≡ length cs = as_many 0 net version cs os come in
     let same_cs : take k.kept cs ≡ cs = take_all k.kept cs (omega (arith, k.told_kept, long)) in
@@ -83,7 +83,7 @@ applies_all net version cs os told m content left old new h s calm holds now all
       rw same at lines;
 }
 
-front_of : (failed : Failed) (durable : ℕ) (os : List Outcome) (told : ℕ) (old new : Option (List ℕ)) → All (IsSettled durable) (take told os)
+front_of : (failed : Failed) (durable : ℕ) (os : List Outcome) (told : ℕ) (old new : Option (List ℕ)) → All (IsGroupSettled durable) (take told os)
     → IfNotWrite failed (LinesTold old new os told) → IfNotWrite failed (IsUnsettledAt durable os told) → IfNotWrite failed (TellsFront durable os told old new)
 front_of (Code Write) durable os told old new settled lines next = tt
 front_of _ durable os told old new settled lines next = record { written = lines; settled = settled; next = next }
@@ -97,7 +97,7 @@ applies_some net version cs os told m content left old new failed h s waiting ho
   come = h.come.come;
   durable = m.durable;
   waiting =
-      let behind : pending m ≡ count_of (drop (m.durable - version) (accepted_in (take h.taken cs) os)) =
+      let behind : pending m ≡ count_of (drop (m.durable - version) (accepted_outcomes (take h.taken cs) os)) =
       ap (λ (b : ℕ). count_of (drop (m.durable - b) m.accepted)) h.come.version_is ∙ ap (λ (l : List Group). count_of (drop (m.durable - version) l)) h.come.accepted_is in
       omega (arith, waiting, behind);
   told = told;
@@ -108,22 +108,22 @@ applies_some net version cs os told m content left old new failed h s waiting ho
 
 -- ---- a flush, and what is told behind it
 pub settle_come : (net : Net) (version told told' : ℕ) (cs : List Group) (os : List Outcome) (m m' : Machine)
-    → KeepsAccepted m m' → told' ≤ length os → (All (IsSettled m'.durable) (take told os) → All (IsSettled m'.durable) (take told' os))
+    → KeepsAccepted m m' → told' ≤ length os → (All (IsGroupSettled m'.durable) (take told os) → All (IsGroupSettled m'.durable) (take told' os))
     → GroupsTaken net version cs os told m → GroupsTaken net version cs os told' m'
 settle_come net version told told' cs os m m' k to more h =
     let later = come_kept net version told cs os m h m' k in
     come_told net version told cs os m' later told' to (more later.settled)
 
-unsettled : (durable : ℕ) (o : Option Outcome) (x : Outcome) → o ≡ Some x → IfSome o (λ outcome. IsSettled durable outcome → ⊥) → IsSettled durable x → ⊥
+unsettled : (durable : ℕ) (o : Option Outcome) (x : Outcome) → o ≡ Some x → IfSome o (λ outcome. IsGroupSettled durable outcome → ⊥) → IsGroupSettled durable x → ⊥
 unsettled durable o x is next =
-    let here : IfSome (Some x) (λ outcome. IsSettled durable outcome → ⊥) = subst (λ (p : Option Outcome). IfSome p (λ outcome. IsSettled durable outcome → ⊥)) is next in
+    let here : IfSome (Some x) (λ outcome. IsGroupSettled durable outcome → ⊥) = subst (λ (p : Option Outcome). IfSome p (λ outcome. IsGroupSettled durable outcome → ⊥)) is next in
     here
 
-all_if_unsettled : (durable : ℕ) (os : List Outcome) (told : ℕ) → told ≤ length os → IsUnsettledAt durable os told → All (IsSettled durable) os → told ≡ length os
+all_if_unsettled : (durable : ℕ) (os : List Outcome) (told : ℕ) → told ≤ length os → IsUnsettledAt durable os told → All (IsGroupSettled durable) os → told ≡ length os
 all_if_unsettled durable os told to next all = ⊎_elim
     (λ here.
-    let last : IsSettled durable (get_or os told here.0) = All-get_or (IsSettled durable) os told here.0 here.1 all in
-    absurd (unsettled durable (slice_get os told) here.0 here.2 next (subst (IsSettled durable) here.3 last)))
+    let last : IsGroupSettled durable (get_or os told here.0) = All-get_or (IsGroupSettled durable) os told here.0 here.1 all in
+    absurd (unsettled durable (slice_get os told) here.0 here.2 next (subst (IsGroupSettled durable) here.3 last)))
     (λ past. omega (arith, to, past.0))
     (slice_get_cases os told).1
 
@@ -198,11 +198,11 @@ if_known None P p = tt
 if_known (Some text) P p = p text
 
 module _ {X : Type 0} (net : Net) (version : ℕ) (list : List Group) (left : List ℕ → Type 0) (r : Result X Failed) where
-  pub applied_known : (content : List ℕ) (known : Option (List ℕ)) (rest : Source) (old new : Option (List ℕ)) → OnOk r (AppliesAll net version list content left old new) → IfSome known (λ text. Reads group_text text rest (Ok list))
+  pub applied_known : (content : List ℕ) (known : Option (List ℕ)) (rest : Source) (old new : Option (List ℕ)) → OnOk r (AppliesAll net version list content left old new) → IfSome known (λ text. ReadsText group_text text rest (Ok list))
       → OnOk r (IfSome known (λ text. IsApplied net version text content left old new))
   applied_known content known rest old new applies read = go r applies
     where
-      read_so : (k : Option (List ℕ)) → IfSome k (λ text. Reads group_text text rest (Ok list)) → AppliesAll net version list content left old new → IfSome k (λ text. IsApplied net version text content left old new)
+      read_so : (k : Option (List ℕ)) → IfSome k (λ text. ReadsText group_text text rest (Ok list)) → AppliesAll net version list content left old new → IfSome k (λ text. IsApplied net version text content left old new)
       read_so None said a = tt
       read_so (Some text) said a = record { list = list; list_is = said.0; applies = a }
 
@@ -210,11 +210,11 @@ module _ {X : Type 0} (net : Net) (version : ℕ) (list : List Group) (left : Li
       go (Ok done) a = read_so known read a
       go (Err failed) a = tt
 
-  pub cut_off_known : (A : Type 0) (known : Option (List ℕ)) (rest : Source) (old new : Option (List ℕ)) → IfErr r (AppliesSome net version list left old new) → IfSome known (λ text. Reads group_text text rest (Ok list))
+  pub cut_off_known : (A : Type 0) (known : Option (List ℕ)) (rest : Source) (old new : Option (List ℕ)) → IfErr r (AppliesSome net version list left old new) → IfSome known (λ text. ReadsText group_text text rest (Ok list))
       → IfErr r (λ failed. IfSome known (λ text. A ⊎ IsCutOff net version text left old new failed))
   cut_off_known A known rest old new applies read = go r applies
     where
-      read_so : (failed : Failed) (k : Option (List ℕ)) → IfSome k (λ text. Reads group_text text rest (Ok list)) → AppliesSome net version list left old new failed → IfSome k (λ text. A ⊎ IsCutOff net version text left old new failed)
+      read_so : (failed : Failed) (k : Option (List ℕ)) → IfSome k (λ text. ReadsText group_text text rest (Ok list)) → AppliesSome net version list left old new failed → IfSome k (λ text. A ⊎ IsCutOff net version text left old new failed)
       read_so failed None said a = tt
       read_so failed (Some text) said a = inr (record { list = list; list_is = said.0; applies = a })
 

@@ -10,15 +10,15 @@ use Rattle.printing.specs.declared.failed.Failed.{Failed}
 use Rattle.printing.specs.declared.failed.Failed.TheVariants.{Code}
 use Rattle.printing.specs.declared.looks.Look.{Look}
 use Rattle.store.specs.State.{HasVersion}
-use Rattle.storetexts.specs.Asked.{IsUnopened}
-use Rattle.storetexts.specs.Shown.{IsShown, IsRefusedShow}
+use Rattle.storetexts.specs.Asked.{IsStoreUnopened}
+use Rattle.storetexts.specs.Shown.{IsStoreShown, IsRefusedShow}
 
-pub unopened : (Honest : Type 0) (file : List ℕ) (refusal : Refusal) → IsUnopened Honest file refusal → IsRefusedShow Honest file (Code refusal)
+pub unopened : (Honest : Type 0) (file : List ℕ) (refusal : Refusal) → IsStoreUnopened Honest file refusal → IsRefusedShow Honest file (Code refusal)
 unopened Honest file Write may = absurd (let never : false ≡ true = may.0 in cc)
 unopened Honest file _ may = may
 
 module _ (Honest : Type 0) (file : List ℕ) (net : Net) (version : ℕ) (stands : Honest → HasVersion file net version) where
-  pub shown_so : (r : Result (Unit {0}) Failed) (look : Look) (old new : Option (List ℕ)) → OnOk r (Appends old new (look_lines net version look)) → OnOk r (IsShown Honest file look old new)
+  pub shown_so : (r : Result (Unit {0}) Failed) (look : Look) (old new : Option (List ℕ)) → OnOk r (Appends old new (look_lines net version look)) → OnOk r (IsStoreShown Honest file look old new)
   shown_so (Ok done) look old new written = record { net = net; version = version; stands = stands; holds = written }
   shown_so (Err failed) look old new written = tt
 

@@ -19,7 +19,7 @@ use Rattle.machine.proofs.Counted.{as_many, batch_count, batch_some, count_furth
 use Rattle.machine.proofs.Kept.{states_kept}
 use Rattle.storetexts.specs.declared.outcomes.Outcome.{Outcome}
 use Rattle.storetexts.specs.declared.outcomes.Outcome.TheVariants.{Accepted, Refused}
-use Rattle.storetexts.specs.Outcomes.{refusal_at, IsRefusedFor, accepted_in, IsSettled}
+use Rattle.storetexts.specs.Outcomes.{refusal_at, IsOutcomeRefusedFor, accepted_outcomes, IsGroupSettled}
 use Rattle.storetexts.specs.Applying.{IsSteady, GroupsTaken, KeepsAccepted}
 use Rattle.storetexts.proofs.Comings.{one_accepted, one_refused, accepted_more, accepted_same, after_come, all_settled}
 
@@ -42,16 +42,16 @@ refusal_here m c there calm few is =
 
 module _ (net : Net) (version told : ℕ) (cs : List Group) (os : List Outcome) (m : Machine) (h : GroupsTaken net version cs os told m) where
   there : Net
-  there = changed_by_all net (accepted_in cs os)
+  there = changed_by_all net (accepted_outcomes cs os)
 
   there_is : accepted_network m ≡ Some there
   unfolding there
   there_is = ap (λ (n : Net). after n m.accepted) h.base_is ∙ (ap (after net) h.accepted_is ∙ after_come 0 net version cs os h.come)
 
-  pub latest_is : latest m ≡ version + length (accepted_in cs os)
-  latest_is = let long : length m.accepted ≡ length (accepted_in cs os) = ap length h.accepted_is in omega (arith, long, h.version_is)
+  pub latest_is : latest m ≡ version + length (accepted_outcomes cs os)
+  latest_is = let long : length m.accepted ≡ length (accepted_outcomes cs os) = ap length h.accepted_is in omega (arith, long, h.version_is)
 
-  pub life_is : m.opened ≡ m.base_version → of_life m ≡ count_of (accepted_in cs os)
+  pub life_is : m.opened ≡ m.base_version → of_life m ≡ count_of (accepted_outcomes cs os)
   life_is opened =
       let none : m.opened - m.base_version ≡ 0 = omega (arith, opened) in
       ap (λ (n : ℕ). count_of (drop n m.accepted)) none ∙ ap count_of h.accepted_is
@@ -72,25 +72,25 @@ module _ (net : Net) (version told : ℕ) (cs : List Group) (os : List Outcome) 
         come = one_accepted 0 net there version (latest m) (of_life m) cs os c n h.come refl latest_is (omega (arith, life_is opened)) (sym (refusal_is c calm few) ∙ free) numbered;
         accepted_is = ap (λ (l : List Group). l ++ c ∷ []) h.accepted_is ∙ sym (accepted_more 0 net version cs os c n h.come);
         told_to = omega (arith, h.told_to, length-append os (Accepted n ∷ []));
-        settled = subst (All (IsSettled m.durable)) (sym (first_told (Accepted n))) h.settled;
+        settled = subst (All (IsGroupSettled m.durable)) (sym (first_told (Accepted n))) h.settled;
       })
 
   come_refused : (c : Group) (r : Refusal) (m' : Machine) → m.opened ≡ m.base_version → m.broken ≡ false → pending m + length c ≤ 4096
       → IsRefused (refusal_of_submit m c) r m m' → GroupsTaken net version (cs ++ c ∷ []) (os ++ Refused r ∷ []) told m'
   unfolding there
   come_refused c r m' opened calm few why =
-      let cause : IsRefusedFor (refusal_at (of_life m) there (latest m) c) r = subst (λ (o : Option Refusal). IsRefusedFor o r) (refusal_is c calm few) why.0 in
+      let cause : IsOutcomeRefusedFor (refusal_at (of_life m) there (latest m) c) r = subst (λ (o : Option Refusal). IsOutcomeRefusedFor o r) (refusal_is c calm few) why.0 in
       subst (GroupsTaken net version (cs ++ c ∷ []) (os ++ Refused r ∷ []) told) (sym why.1) (record {
         base_is = h.base_is;
         version_is = h.version_is;
         come = one_refused 0 net there version (latest m) (of_life m) cs os c r h.come refl latest_is (omega (arith, life_is opened)) cause;
         accepted_is = h.accepted_is ∙ sym (accepted_same 0 net version cs os c r h.come);
         told_to = omega (arith, h.told_to, length-append os (Refused r ∷ []));
-        settled = subst (All (IsSettled m.durable)) (sym (first_told (Refused r))) h.settled;
+        settled = subst (All (IsGroupSettled m.durable)) (sym (first_told (Refused r))) h.settled;
       })
 
   -- where nothing is pending each outcome is settled
-  pub settled_all : m.durable ≡ latest m → All (IsSettled m.durable) os
+  pub settled_all : m.durable ≡ latest m → All (IsGroupSettled m.durable) os
   settled_all done = all_settled 0 net version m.durable cs os h.come (omega (arith, latest_is, done))
 
   pub come_kept : (m' : Machine) → KeepsAccepted m m' → GroupsTaken net version cs os told m'
@@ -100,14 +100,14 @@ module _ (net : Net) (version told : ℕ) (cs : List Group) (os : List Outcome) 
     come = h.come;
     accepted_is = k.accepted ∙ h.accepted_is;
     told_to = h.told_to;
-    settled = All-weaker (IsSettled m.durable) (IsSettled m'.durable) (later m.durable m'.durable k.durable) (take told os) h.settled;
+    settled = All-weaker (IsGroupSettled m.durable) (IsGroupSettled m'.durable) (later m.durable m'.durable k.durable) (take told os) h.settled;
   }
     where
-      later : (a b : ℕ) → a ≤ b → (o : Outcome) → IsSettled a o → IsSettled b o
+      later : (a b : ℕ) → a ≤ b → (o : Outcome) → IsGroupSettled a o → IsGroupSettled b o
       later a b le (Accepted n) s = omega (arith, s, le)
       later a b le (Refused r) s = tt
 
-  pub come_told : (told' : ℕ) → told' ≤ length os → All (IsSettled m.durable) (take told' os) → GroupsTaken net version cs os told' m
+  pub come_told : (told' : ℕ) → told' ≤ length os → All (IsGroupSettled m.durable) (take told' os) → GroupsTaken net version cs os told' m
   come_told told' to settled = record { base_is = h.base_is; version_is = h.version_is; come = h.come; accepted_is = h.accepted_is; told_to = to; settled = settled }
 
 -- the outcome of a submit

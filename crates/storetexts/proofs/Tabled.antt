@@ -8,7 +8,7 @@ use Rattle.dimacs.specs.declared.fault.Fault.{Fault}
 use Rattle.dimacs.specs.declared.lists.pairs.Pair.{Pair}
 use Rattle.dimacs.specs.Lines.{rows}
 use Rattle.dimacs.specs.Landmarks.{nodes_text}
-use Rattle.dimacs.specs.Texts.{Source, IsUnread, FaultOf, content_by, Reads}
+use Rattle.dimacs.specs.Texts.{Source, IsUnread, FaultOf, content_by, ReadsText}
 use Rattle.pagereader.specs.Outcomes.{MayEndOpening}
 use Rattle.store.specs.State.{HasVersion}
 use Rattle.printing.specs.declared.failed.Failed.{Failed}
@@ -16,20 +16,20 @@ use Rattle.printing.specs.declared.failed.Failed.TheVariants.{Text, Code}
 use Rattle.querytexts.specs.Batch.{AnswersAll}
 use Rattle.querytexts.specs.Once.{IsUnanswered}
 use Rattle.querytexts.specs.Table.{GivesTable, nodes_in, pairs_between}
-use Rattle.storetexts.specs.Asked.{OfStore, GivesNodes, IsTableAsked, IsRefusedTable, IsUnopened}
+use Rattle.storetexts.specs.Asked.{OfStore, GivesNodes, IsTableAsked, IsRefusedStoreTable, IsStoreUnopened}
 use Rattle.storetexts.specs.Refused.{IsOfTwoTexts}
 
 -- ---- opening is refused
 no_write : (P Q : Type 0) → MayEndOpening Write × Q → P
 no_write P Q may = absurd (let never : false ≡ true = may.0 in cc)
 
-table_refused : (Honest : Type 0) (file from to : List ℕ) (first second : Source) (refusal : Refusal) → IsUnread from first → IsUnread to second → IsUnopened Honest file refusal
-    → IsRefusedTable Honest file from to first second (Code refusal)
+table_refused : (Honest : Type 0) (file from to : List ℕ) (first second : Source) (refusal : Refusal) → IsUnread from first → IsUnread to second → IsStoreUnopened Honest file refusal
+    → IsRefusedStoreTable Honest file from to first second (Code refusal)
 table_refused Honest file from to first second Write unread unread' may = no_write _ _ may
 table_refused Honest file from to first second _ unread unread' may = (may, inl (unread, unread'))
 
 pub table_refused_known : (Honest : Type 0) (file : List ℕ) (known known' : Option (List ℕ)) (first second : Source) (refusal : Refusal) → IfSome known (λ from. IsUnread from first) → IfSome known' (λ to. IsUnread to second)
-    → IsUnopened Honest file refusal → IfSome known (λ from. IfSome known' (λ to. IsRefusedTable Honest file from to first second (Code refusal)))
+    → IsStoreUnopened Honest file refusal → IfSome known (λ from. IfSome known' (λ to. IsRefusedStoreTable Honest file from to first second (Code refusal)))
 table_refused_known Honest file None known' first second refusal unread unread' may = tt
 table_refused_known Honest file (Some from) None first second refusal unread unread' may = tt
 table_refused_known Honest file (Some from) (Some to) first second refusal unread unread' may = table_refused Honest file from to first second refusal unread unread' may
@@ -66,7 +66,7 @@ module _ (Honest : Type 0) (file : List ℕ) (net : Net) (version nodes : ℕ) (
     asked_one : (from to : List ℕ) → Lists from sources → Lists to targets → AnswersAll net version (pairs_between sources targets) old new → IsTableAsked Honest file from to old new
     asked_one from to said said' answers = opened _ (table (λ pairs. AnswersAll net version pairs old new) from to sources targets said said' answers)
 
-    pub asked_of : {X : Type 0} (r : Result X Failed) (first second : Option (List ℕ)) (source source' : Source) → IfSome first (λ from. Reads (nodes_text nodes) from source (Ok sources)) → IfSome second (λ to. Reads (nodes_text nodes) to source' (Ok targets))
+    pub asked_of : {X : Type 0} (r : Result X Failed) (first second : Option (List ℕ)) (source source' : Source) → IfSome first (λ from. ReadsText (nodes_text nodes) from source (Ok sources)) → IfSome second (λ to. ReadsText (nodes_text nodes) to source' (Ok targets))
         → OnOk r (AnswersAll net version (pairs_between sources targets) old new) → OnOk r (IfSome first (λ from. IfSome second (λ to. IsTableAsked Honest file from to old new)))
     asked_of (Ok done) None second source source' said said' answers = tt
     asked_of (Ok done) (Some from) None source source' said said' answers = tt
@@ -74,33 +74,33 @@ module _ (Honest : Type 0) (file : List ℕ) (net : Net) (version nodes : ℕ) (
     asked_of (Err failed) first second source source' said said' answers = tt
 
   -- ---- a text has a fault
-  source_fault : (from to : List ℕ) (first second : Source) (fault : Fault) → FaultOf (nodes_text nodes) from first fault → IsRefusedTable Honest file from to first second (Text 0 fault)
+  source_fault : (from to : List ℕ) (first second : Source) (fault : Fault) → FaultOf (nodes_text nodes) from first fault → IsRefusedStoreTable Honest file from to first second (Text 0 fault)
   source_fault from to first second fault said = opened _ (subst (λ (n : ℕ). FaultOf (nodes_text n) from first fault) is said)
 
-  target_fault : (from to sources : List ℕ) (first second : Source) (fault : Fault) → Lists from sources → FaultOf (nodes_text nodes) to second fault → IsRefusedTable Honest file from to first second (Text 1 fault)
+  target_fault : (from to sources : List ℕ) (first second : Source) (fault : Fault) → Lists from sources → FaultOf (nodes_text nodes) to second fault → IsRefusedStoreTable Honest file from to first second (Text 1 fault)
   target_fault from to sources first second fault said said' = opened _ (sources, in_net from sources said, subst (λ (n : ℕ). FaultOf (nodes_text n) to second fault) is said')
 
-  pub source_fault_known : (first second : Option (List ℕ)) (source source' : Source) (fault : Fault) → IfSome first (λ from. Reads (nodes_text nodes) from source (Err fault))
-      → IfSome first (λ from. IfSome second (λ to. IsRefusedTable Honest file from to source source' (Text 0 fault)))
+  pub source_fault_known : (first second : Option (List ℕ)) (source source' : Source) (fault : Fault) → IfSome first (λ from. ReadsText (nodes_text nodes) from source (Err fault))
+      → IfSome first (λ from. IfSome second (λ to. IsRefusedStoreTable Honest file from to source source' (Text 0 fault)))
   source_fault_known None second source source' fault said = tt
   source_fault_known (Some from) None source source' fault said = tt
   source_fault_known (Some from) (Some to) source source' fault said = source_fault from to source source' fault said
 
-  pub target_fault_known : (sources : List ℕ) (first second : Option (List ℕ)) (source source' : Source) (fault : Fault) → IfSome first (λ from. Reads (nodes_text nodes) from source (Ok sources))
-      → IfSome second (λ to. Reads (nodes_text nodes) to source' (Err fault)) → IfSome first (λ from. IfSome second (λ to. IsRefusedTable Honest file from to source source' (Text 1 fault)))
+  pub target_fault_known : (sources : List ℕ) (first second : Option (List ℕ)) (source source' : Source) (fault : Fault) → IfSome first (λ from. ReadsText (nodes_text nodes) from source (Ok sources))
+      → IfSome second (λ to. ReadsText (nodes_text nodes) to source' (Err fault)) → IfSome first (λ from. IfSome second (λ to. IsRefusedStoreTable Honest file from to source source' (Text 1 fault)))
   target_fault_known sources None second source source' fault said said' = tt
   target_fault_known sources (Some from) None source source' fault said said' = tt
   target_fault_known sources (Some from) (Some to) source source' fault said said' = target_fault from to sources source source' fault said.0 said'
 
   -- ---- the answers are not written
   module _ (sources targets : List ℕ) where
-    unanswered : (from to : List ℕ) (first second : Source) (failed : Failed) → Lists from sources → Lists to targets → IsUnanswered failed → IsRefusedTable Honest file from to first second failed
+    unanswered : (from to : List ℕ) (first second : Source) (failed : Failed) → Lists from sources → Lists to targets → IsUnanswered failed → IsRefusedStoreTable Honest file from to first second failed
     unanswered from to first second (Code Write) said said' h = gives from to sources targets said said'
     unanswered from to first second (Code OutOfMemory) said said' h = ((refl, λ honest. inl (inl refl)), inr (gives from to sources targets said said'))
     unanswered from to first second _ said said' h = absurd h
 
-    pub refused_known : {X : Type 0} (r : Result X Failed) (first second : Option (List ℕ)) (source source' : Source) → IfSome first (λ from. Reads (nodes_text nodes) from source (Ok sources)) → IfSome second (λ to. Reads (nodes_text nodes) to source' (Ok targets))
-        → IfErr r IsUnanswered → IfErr r (λ failed. IfSome first (λ from. IfSome second (λ to. IsRefusedTable Honest file from to source source' failed)))
+    pub refused_known : {X : Type 0} (r : Result X Failed) (first second : Option (List ℕ)) (source source' : Source) → IfSome first (λ from. ReadsText (nodes_text nodes) from source (Ok sources)) → IfSome second (λ to. ReadsText (nodes_text nodes) to source' (Ok targets))
+        → IfErr r IsUnanswered → IfErr r (λ failed. IfSome first (λ from. IfSome second (λ to. IsRefusedStoreTable Honest file from to source source' failed)))
     refused_known (Ok done) first second source source' said said' h = tt
     refused_known (Err failed) None second source source' said said' h = tt
     refused_known (Err failed) (Some from) None source source' said said' h = tt

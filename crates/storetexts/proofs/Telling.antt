@@ -8,7 +8,7 @@ use Rattle.std.proofs.lemmas.List.Elements.{All-nil, All-cons, All-append}
 use Rattle.std.proofs.lemmas.Grind.{flat_map-append}
 use Rattle.printing.specs.Replied.{printed_reply, printed_replies}
 use Rattle.storetexts.specs.declared.outcomes.Outcome.{Outcome}
-use Rattle.storetexts.specs.Outcomes.{reply_of, outcome_lines, IsSettled}
+use Rattle.storetexts.specs.Outcomes.{reply_of, outcome_lines, IsGroupSettled}
 use Rattle.storetexts.specs.Applying.{LinesTold}
 
 line_of_one_more : (os : List Outcome) (i : ℕ) (d : Outcome) → i < length os → outcome_lines (take (i + 1) os) ≡ outcome_lines (take i os) ++ printed_reply (reply_of (get_or os i d))
@@ -22,6 +22,6 @@ line_of_one_more os i d lt =
 pub told_more : (os : List Outcome) (i : ℕ) (d : Outcome) (before mid new : Option (List ℕ)) → i < length os → LinesTold before mid os i → Appends mid new (printed_reply (reply_of (get_or os i d))) → LinesTold before new os (i + 1)
 told_more os i d before mid new lt told here = subst (Appends before new) (sym (line_of_one_more os i d lt)) (Appends-trans before mid new _ _ told here)
 
-pub settled_more : (durable : ℕ) (os : List Outcome) (i : ℕ) (d : Outcome) → i < length os → All (IsSettled durable) (take i os) → IsSettled durable (get_or os i d) → All (IsSettled durable) (take (i + 1) os)
+pub settled_more : (durable : ℕ) (os : List Outcome) (i : ℕ) (d : Outcome) → i < length os → All (IsGroupSettled durable) (take i os) → IsGroupSettled durable (get_or os i d) → All (IsGroupSettled durable) (take (i + 1) os)
 settled_more durable os i d lt before here =
-    subst (All (IsSettled durable)) (sym (take_more os i d lt)) (All-append (IsSettled durable) (take i os) (get_or os i d ∷ []) before (All-cons (IsSettled durable) (get_or os i d) [] here (All-nil (IsSettled durable))))
+    subst (All (IsGroupSettled durable)) (sym (take_more os i d lt)) (All-append (IsGroupSettled durable) (take i os) (get_or os i d ∷ []) before (All-cons (IsGroupSettled durable) (get_or os i d) [] here (All-nil (IsGroupSettled durable))))

@@ -17,7 +17,7 @@ use Rattle.printing.specs.declared.writer.CountedWriter.{CountedWriter}
 use Rattle.printing.specs.declared.failed.Failed.{Failed}
 use Rattle.printing.specs.declared.failed.Failed.TheVariants.{Text, Code}
 use Rattle.storetexts.specs.Applied.{AtAnyMoment, IfNotWrite, StandsForBeginning, StandsForBeginningOfGroups, AppliesAll, AppliesSome, TellsAll}
-use Rattle.storetexts.specs.Outcomes.{ComesTo, accepted_in, outcome_lines, IsSettled, IsUnsettledAt}
+use Rattle.storetexts.specs.Outcomes.{ComesTo, accepted_outcomes, outcome_lines, IsGroupSettled, IsUnsettledAt}
 use Rattle.storetexts.specs.Refused.{CountsDevice}
 use Rattle.printing.specs.Writers.{KeepsWriter}
 
@@ -44,9 +44,9 @@ pub record GroupsTaken (net : Net) (version : ℕ) (groups : List Group) (outcom
   pub base_is : m.base ≡ net
   pub version_is : m.base_version ≡ version
   pub come : ComesTo 0 net version groups outcomes
-  pub accepted_is : m.accepted ≡ accepted_in groups outcomes
+  pub accepted_is : m.accepted ≡ accepted_outcomes groups outcomes
   pub told_to : told ≤ length outcomes
-  pub settled : All (IsSettled m.durable) (take told outcomes)
+  pub settled : All (IsGroupSettled m.durable) (take told outcomes)
 
 -- the same groups are accepted, and what was durable stays so
 pub record KeepsAccepted (old new : Machine) : Type 0 where
@@ -83,35 +83,35 @@ pub record FirstGroupsTaken (net : Net) (version : ℕ) (groups : List Group) (o
 -- ---- from one state of the applying to a later one
 
 -- how far groups are applied: what they came to, how many of these outcomes are told, and the machine of the ledger
-pub record Progress : Type 0 where
+pub record ApplyingProgress : Type 0 where
   pub outcomes : List Outcome
   pub told : ℕ
   pub machine : Machine
 
-abbrev pub progress : {D : Type 0} → Applying D → Progress
+abbrev pub progress : {D : Type 0} → Applying D → ApplyingProgress
 progress a = record { outcomes = a.outcomes.items; told = a.told; machine = a.ledger.machine }
 
 -- whatever groups came to the old outcomes came, with this one behind them, to the new ones
-abbrev pub TakesGroup : Group → Progress → Progress → Type 0
+abbrev pub TakesGroup : Group → ApplyingProgress → ApplyingProgress → Type 0
 TakesGroup group old new = (net : Net) (version : ℕ) (groups : List Group)
     → GroupsTaken net version groups old.outcomes old.told old.machine → GroupsTaken net version (groups ++ group ∷ []) new.outcomes new.told new.machine
 
 -- whatever groups came to the old outcomes came to the new ones
-abbrev pub KeepsGroups : Progress → Progress → Type 0
+abbrev pub KeepsGroups : ApplyingProgress → ApplyingProgress → Type 0
 KeepsGroups old new = (net : Net) (version : ℕ) (groups : List Group)
     → GroupsTaken net version groups old.outcomes old.told old.machine → GroupsTaken net version groups new.outcomes new.told new.machine
 
 -- where groups came to the old outcomes, each of the new ones is told
-abbrev pub OutcomesTold : Progress → Progress → Type 0
+abbrev pub OutcomesTold : ApplyingProgress → ApplyingProgress → Type 0
 OutcomesTold old new = (net : Net) (version : ℕ) (groups : List Group)
     → GroupsTaken net version groups old.outcomes old.told old.machine → new.told ≡ length new.outcomes
 
 -- the first outcomes, so many, are settled
-abbrev pub OutcomesSettled : Progress → ℕ → Type 0
-OutcomesSettled p told = All (IsSettled p.machine.durable) (take told p.outcomes)
+abbrev pub OutcomesSettled : ApplyingProgress → ℕ → Type 0
+OutcomesSettled p told = All (IsGroupSettled p.machine.durable) (take told p.outcomes)
 
 -- where the lines of what was told before were written, those of what is told now are
-abbrev pub LinesFollow : Option (List ℕ) → Option (List ℕ) → Progress → Progress → Type 0
+abbrev pub LinesFollow : Option (List ℕ) → Option (List ℕ) → ApplyingProgress → ApplyingProgress → Type 0
 LinesFollow mid now old new = (before : Option (List ℕ)) → LinesTold before mid old.outcomes old.told → LinesTold before now new.outcomes new.told
 
 -- of a ledger that has just begun, with this machine: what holds of its network and version
@@ -123,10 +123,10 @@ abbrev pub ForTidyLedger : {D : Type 0} → (D → Type 0) → (D → List ℕ) 
 ForTidyLedger honest content ledger Holds = CameTidy honest content ledger.given → ForNewLedger ledger.machine Holds
 
 -- all of these groups have come so far, or the first of them
-abbrev pub GroupsTakenSince : Machine → List Group → Progress → Type 0
+abbrev pub GroupsTakenSince : Machine → List Group → ApplyingProgress → Type 0
 GroupsTakenSince first groups p = ForNewLedger first (λ net version. GroupsTaken net version groups p.outcomes p.told p.machine)
 
-abbrev pub FirstGroupsTakenSince : Machine → List Group → Progress → Type 0
+abbrev pub FirstGroupsTakenSince : Machine → List Group → ApplyingProgress → Type 0
 FirstGroupsTakenSince first groups p = ForNewLedger first (λ net version. FirstGroupsTaken net version groups p.outcomes p.told p.machine)
 
 -- ---- what the calls have in common
@@ -137,8 +137,8 @@ StandsForMachine m content = StandsForBeginning m.base m.base_version m.accepted
 
 -- Where the store came tidy: if a stop at any moment since the first disk left what it might have left of that one, or a beginning of the accepted
 -- groups, then so it does after the call.
-abbrev pub Leaves : {D : Type 0} → Ghosts D → LedgerState D → LedgerState D → Type 0
-Leaves {D} disk old new = CameTidy disk.honest disk.content old.given → (first : D)
+abbrev pub LeavesLedger : {D : Type 0} → Ghosts D → LedgerState D → LedgerState D → Type 0
+LeavesLedger {D} disk old new = CameTidy disk.honest disk.content old.given → (first : D)
     → AtAnyMoment disk.moment disk.left_since disk.left first old.disk (StandsForMachine old.machine)
     → AtAnyMoment disk.moment disk.left_since disk.left first new.disk (StandsForMachine new.machine)
 
@@ -151,7 +151,7 @@ pub record IsNew {D : Type 0} (a : Applying D) : Type 0 where
 -- From one state to a later one: no call is going, and the disk is as honest, and leaves no more, as said.
 pub record Goes {D : Type 0} (disk : Ghosts D) (old new : Applying D) : Type 0 where
   pub steady : IsSteady new.ledger.machine
-  pub leaves : Leaves disk old.ledger new.ledger
+  pub leaves : LeavesLedger disk old.ledger new.ledger
   pub given : new.ledger.given ≡ old.ledger.given
   pub honest : disk.honest new.ledger.disk ↔ disk.honest old.ledger.disk
   pub room : vec_capacity new.outcomes ≡ vec_capacity old.outcomes
@@ -179,7 +179,7 @@ pub record Advances {D W : Type 0} (disk : Ghosts D) (result : Result (Unit {0})
   pub writer : KeepsWriter result before after
 
 -- What applying these groups to the store of a ledger that has just begun comes to: with the disk, and with what was written before and after.
-pub record Applies {D : Type 0} (disk : Ghosts D) (ledger : LedgerState D) (groups : List Group) (result : Result (Unit {0}) Failed) (new : D) (before after : Option (List ℕ)) : Type 0 where
+pub record AppliesGroups {D : Type 0} (disk : Ghosts D) (ledger : LedgerState D) (groups : List Group) (result : Result (Unit {0}) Failed) (new : D) (before after : Option (List ℕ)) : Type 0 where
   pub applied : ForTidyLedger disk.honest disk.content ledger (λ net version. OnOk result (AppliesAll net version groups (disk.content new) (disk.left new) before after))
   pub cut_off : ForTidyLedger disk.honest disk.content ledger (λ net version. IfErr result (AppliesSome net version groups (disk.left new) before after))
   pub told : ForNewLedger ledger.machine (λ net version. OnOk result (TellsAll net version groups before after))

@@ -24,8 +24,8 @@ pub record OfStore (Honest : Type 0) (file : List ℕ) (Holds : Net → ℕ → 
   pub holds : Holds net version
 
 -- With what opening may be refused over any disk; where it keeps the disk model, 40 to 42 are what its file says.
-abbrev pub IsUnopened : Type 0 → List ℕ → Refusal → Type 0
-IsUnopened Honest file refusal = MayEndOpening refusal × (Honest → MayRefuseToOpen file refusal)
+abbrev pub IsStoreUnopened : Type 0 → List ℕ → Refusal → Type 0
+IsStoreUnopened Honest file refusal = MayEndOpening refusal × (Honest → MayRefuseToOpen file refusal)
 
 -- what is written are the lines of right answers to the pairs of the text, of routes or of lengths, in this network at this version, and nothing else
 pub record AnswersText (routes : Bool) (text : List ℕ) (old new : Option (List ℕ)) (net : Net) (version : ℕ) : Type 0 where
@@ -34,8 +34,8 @@ pub record AnswersText (routes : Bool) (text : List ℕ) (old new : Option (List
   pub answers : AnswersAs routes net version list old new
 
 -- the same in the network and at the version of the store
-abbrev pub IsAsked : Bool → Type 0 → List ℕ → List ℕ → Option (List ℕ) → Option (List ℕ) → Type 0
-IsAsked routes Honest file text old new = OfStore Honest file (AnswersText routes text old new)
+abbrev pub IsStoreAsked : Bool → Type 0 → List ℕ → List ℕ → Option (List ℕ) → Option (List ℕ) → Type 0
+IsStoreAsked routes Honest file text old new = OfStore Honest file (AnswersText routes text old new)
 
 -- the text has no fault, judged by this network
 abbrev pub GivesPairs : List ℕ → Net → ℕ → Type 0
@@ -46,7 +46,7 @@ GivesPairs text net version = (list : List Pair) × (pairs_in net text ≡ Ok li
 abbrev pub IsRefusedAsk : Type 0 → List ℕ → List ℕ → Source → Failed → Type 0
 IsRefusedAsk Honest file text source (Text zero fault) = OfStore Honest file (λ net version. FaultOf (p2p_text net.nodes) text source fault)
 IsRefusedAsk Honest file text source (Code Write) = OfStore Honest file (GivesPairs text)
-IsRefusedAsk Honest file text source (Code refusal) = IsUnopened Honest file refusal × (IsUnread text source ⊎ OfStore Honest file (GivesPairs text))
+IsRefusedAsk Honest file text source (Code refusal) = IsStoreUnopened Honest file refusal × (IsUnread text source ⊎ OfStore Honest file (GivesPairs text))
 IsRefusedAsk Honest file text source failed = ⊥
 
 -- ---- the pairs between the nodes of two texts
@@ -66,10 +66,10 @@ GivesNodes sources targets net version = GivesTable net sources targets (λ pair
 -- The store was opened and the text of sources has its fault told, judged by the network of the store, or its reader failed in it; or that of targets,
 -- where the one of sources has none. Where the store was opened and neither has one, the writer failed, or memory ran out. Or opening is refused, and
 -- neither text is read.
-abbrev pub IsRefusedTable : Type 0 → List ℕ → List ℕ → List ℕ → Source → Source → Failed → Type 0
-IsRefusedTable Honest file sources targets sources_from targets_from (Text zero fault) = OfStore Honest file (λ net version. FaultOf (nodes_text net.nodes) sources sources_from fault)
-IsRefusedTable Honest file sources targets sources_from targets_from (Text (suc zero) fault) = OfStore Honest file (λ net version. HasTargetFault net sources targets targets_from fault)
-IsRefusedTable Honest file sources targets sources_from targets_from (Code Write) = OfStore Honest file (GivesNodes sources targets)
-IsRefusedTable Honest file sources targets sources_from targets_from (Code refusal) =
-    IsUnopened Honest file refusal × ((IsUnread sources sources_from × IsUnread targets targets_from) ⊎ OfStore Honest file (GivesNodes sources targets))
-IsRefusedTable Honest file sources targets sources_from targets_from failed = ⊥
+abbrev pub IsRefusedStoreTable : Type 0 → List ℕ → List ℕ → List ℕ → Source → Source → Failed → Type 0
+IsRefusedStoreTable Honest file sources targets sources_from targets_from (Text zero fault) = OfStore Honest file (λ net version. FaultOf (nodes_text net.nodes) sources sources_from fault)
+IsRefusedStoreTable Honest file sources targets sources_from targets_from (Text (suc zero) fault) = OfStore Honest file (λ net version. HasTargetFault net sources targets targets_from fault)
+IsRefusedStoreTable Honest file sources targets sources_from targets_from (Code Write) = OfStore Honest file (GivesNodes sources targets)
+IsRefusedStoreTable Honest file sources targets sources_from targets_from (Code refusal) =
+    IsStoreUnopened Honest file refusal × ((IsUnread sources sources_from × IsUnread targets targets_from) ⊎ OfStore Honest file (GivesNodes sources targets))
+IsRefusedStoreTable Honest file sources targets sources_from targets_from failed = ⊥

@@ -12,7 +12,7 @@ use Rattle.printing.specs.declared.failed.Failed.{Failed}
 use Rattle.printing.specs.declared.failed.Failed.TheVariants.{Text, Code}
 use Rattle.store.specs.declared.stores.standing.Standing.{Standing}
 use Rattle.store.specs.Inspecting.{HasStanding}
-use Rattle.storetexts.specs.Asked.{IsUnopened}
+use Rattle.storetexts.specs.Asked.{IsStoreUnopened}
 
 -- `slot A E` or `slot B E`
 abbrev pub slot_line : Slot → ℕ → List ℕ
@@ -38,4 +38,4 @@ IsSomeStore Honest file = (version : ℕ) × (told : Standing) × (Honest → (n
 abbrev pub IsRefusedCheck : Type 0 → List ℕ → Failed → Type 0
 IsRefusedCheck Honest file (Text which fault) = ⊥
 IsRefusedCheck Honest file (Code Write) = IsSomeStore Honest file
-IsRefusedCheck Honest file (Code refusal) = IsUnopened Honest file refusal
+IsRefusedCheck Honest file (Code refusal) = IsStoreUnopened Honest file refusal

@@ -2,9 +2,9 @@
 use Rattle.std.specs.Prelude.{◌≡◌, Option, None, Some, Result, Ok, Err}
 
 -- the disk that was made, or else the one that is known to be made
-abbrev pub standing : {D : Type 0} → Option D → Option D → Option D
-standing (Some made) known = Some made
-standing None known = known
+abbrev pub made_or_known : {D : Type 0} → Option D → Option D → Option D
+made_or_known (Some made) known = Some made
+made_or_known None known = known
 
 -- what is said of a disk, or of none
 abbrev pub of_disk : {D X : Type 0} → (D → X) → X → Option D → X

@@ -8,7 +8,7 @@ use Rattle.disk.specs.Contents.{Only}
 use Rattle.pages.specs.declared.content.Format.{Format}
 use Rattle.storefile.specs.StoreFile.{StandsIn, StandsTidyFor}
 use Rattle.store.specs.Created.{IsNewFile}
-use Rattle.store.specs.Migrating.{CountsFailure, IsCopyIn, MayEndCopying, IsRefusedForNew as refused_for_new, IsRefusedForOld as refused_for_old}
+use Rattle.store.specs.Migrating.{CountsCopyFailure, IsCopyIn, MayEndCopying, IsMoveRefusedForNew as refused_for_new, IsMoveRefusedForOld as refused_for_old}
 use Rattle.store.specs.State.{checkpoint_pages_of}
 use Rattle.printing.specs.declared.failed.Failed.{Failed}
 use Rattle.printing.specs.declared.failed.Failed.TheVariants.{Text, Code}
@@ -36,16 +36,16 @@ pub record TellsMoved (format : Format) (Honest : Type 0) (old : List ℕ) (befo
   pub written : Appends before after (number_line (codes "ok ") version)
 
 -- No store is made, or the writer failed behind it; the new disk has this content: it is empty where the writer failed.
-abbrev pub IsRefusedForNew : List ℕ → Failed → Type 0
-IsRefusedForNew new (Text which fault) = ⊥
-IsRefusedForNew new (Code Write) = new ≡ []
-IsRefusedForNew new (Code refusal) = refused_for_new new refusal
+abbrev pub IsMoveRefusedForNew : List ℕ → Failed → Type 0
+IsMoveRefusedForNew new (Text which fault) = ⊥
+IsMoveRefusedForNew new (Code Write) = new ≡ []
+IsMoveRefusedForNew new (Code refusal) = refused_for_new new refusal
 
 -- The same of the old disk, which is of this format where the writer failed.
-abbrev pub IsRefusedForOld : Format → List ℕ → Option ℕ → Failed → Type 0
-IsRefusedForOld format old room (Text which fault) = ⊥
-IsRefusedForOld format old room (Code Write) = (version : ℕ) × HasVersionIn format old version
-IsRefusedForOld format old room (Code refusal) = refused_for_old format old room refusal
+abbrev pub IsMoveRefusedForOld : Format → List ℕ → Option ℕ → Failed → Type 0
+IsMoveRefusedForOld format old room (Text which fault) = ⊥
+IsMoveRefusedForOld format old room (Code Write) = (version : ℕ) × HasVersionIn format old version
+IsMoveRefusedForOld format old room (Code refusal) = refused_for_old format old room refusal
 
 -- a failed write, or a refusal with which a copy may end, whatever the disks
 abbrev pub IsOfMove : Failed → Type 0
@@ -57,4 +57,4 @@ IsOfMove (Code refusal) = MayEndCopying refusal
 abbrev pub CountsMove : ℕ → ℕ → ℕ → ℕ → Result (Unit {0}) Failed → Type 0
 CountsMove old old' new new' (Ok done) = (old' ≡ old) × (new' ≡ new)
 CountsMove old old' new new' (Err (Text which fault)) = (old' ≡ old) × (new' ≡ new)
-CountsMove old old' new new' (Err (Code refusal)) = CountsFailure refusal old old' new new'
+CountsMove old old' new new' (Err (Code refusal)) = CountsCopyFailure refusal old old' new new'

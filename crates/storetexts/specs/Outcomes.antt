@@ -31,8 +31,8 @@ refusal_at life net version group =
     first_refusal net group
 
 -- refused for this cause, or else for want of memory
-abbrev pub IsRefusedFor : Option Refusal → Refusal → Type 0
-IsRefusedFor cause refusal = (cause ≡ Some refusal) ⊎ ((cause ≡ None) × (refusal ≡ OutOfMemory))
+abbrev pub IsOutcomeRefusedFor : Option Refusal → Refusal → Type 0
+IsOutcomeRefusedFor cause refusal = (cause ≡ Some refusal) ⊎ ((cause ≡ None) × (refusal ≡ OutOfMemory))
 
 -- Groups on this network at this version, where so many commands were accepted since the store was opened, come to these outcomes, one each:
 -- accepted as the next version is what has no cause of refusal after those accepted before it.
@@ -43,20 +43,20 @@ ComesTo life net version (group ∷ groups) [] = ⊥
 ComesTo life net version (group ∷ groups) (Accepted number ∷ outcomes) =
     (refusal_at life net version group ≡ None) × (number ≡ version + 1) × ComesTo (life + length group) (changed_by net group) (version + 1) groups outcomes
 ComesTo life net version (group ∷ groups) (Refused refusal ∷ outcomes) =
-    IsRefusedFor (refusal_at life net version group) refusal × ComesTo life net version groups outcomes
+    IsOutcomeRefusedFor (refusal_at life net version group) refusal × ComesTo life net version groups outcomes
 
 -- the groups that were accepted, in order
-abbrev pub accepted_in : List Group → List Outcome → List Group
-accepted_in [] outcomes = []
-accepted_in (group ∷ groups) [] = []
-accepted_in (group ∷ groups) (Accepted number ∷ outcomes) = group ∷ accepted_in groups outcomes
-accepted_in (group ∷ groups) (Refused refusal ∷ outcomes) = accepted_in groups outcomes
+abbrev pub accepted_outcomes : List Group → List Outcome → List Group
+accepted_outcomes [] outcomes = []
+accepted_outcomes (group ∷ groups) [] = []
+accepted_outcomes (group ∷ groups) (Accepted number ∷ outcomes) = group ∷ accepted_outcomes groups outcomes
+accepted_outcomes (group ∷ groups) (Refused refusal ∷ outcomes) = accepted_outcomes groups outcomes
 
 -- the group is durable at this version, or was refused
-abbrev pub IsSettled : ℕ → Outcome → Type 0
-IsSettled durable (Accepted number) = number ≤ durable
-IsSettled durable (Refused refusal) = ⊤
+abbrev pub IsGroupSettled : ℕ → Outcome → Type 0
+IsGroupSettled durable (Accepted number) = number ≤ durable
+IsGroupSettled durable (Refused refusal) = ⊤
 
 -- the outcome at this place, counted from 0, is not settled, if there is one
 abbrev pub IsUnsettledAt : ℕ → List Outcome → ℕ → Type 0
-IsUnsettledAt durable outcomes place = IfSome (slice_get outcomes place) (λ outcome. IsSettled durable outcome → ⊥)
+IsUnsettledAt durable outcomes place = IfSome (slice_get outcomes place) (λ outcome. IsGroupSettled durable outcome → ⊥)

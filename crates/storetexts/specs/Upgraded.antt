@@ -14,8 +14,8 @@ use Rattle.printing.specs.declared.failed.Failed.{Failed}
 use Rattle.printing.specs.declared.failed.Failed.TheVariants.{Text, Code}
 use Rattle.querytexts.specs.Once.{AfterNetwork}
 use Rattle.upgrades.specs.declared.counts.Counts.{Counts}
-use Rattle.upgrades.specs.Upgrading.{IsUpgraded, AreCounts, MayRefuseUpgrade}
-use Rattle.storetexts.specs.Asked.{IsUnopened}
+use Rattle.upgrades.specs.Upgrading.{IsUpgraded, AreUpgradeCounts, MayRefuseUpgrade}
+use Rattle.storetexts.specs.Asked.{IsStoreUnopened}
 use Rattle.storetexts.specs.Created.{IsNewStore, IsOfMaking}
 
 -- both texts have no fault, and give these: the old map, and the new one with the room that is given, if one is
@@ -62,12 +62,12 @@ pub record IsUpgradeBy (Honest : Type 0) (file : List ℕ) (old new made : Net) 
   pub stored : Told
   pub stands : Honest → HasTold file stored
   pub made_is : IsUpgraded stored.network old new made
-  pub counts_are : AreCounts stored.network new counts
+  pub counts_are : AreUpgradeCounts stored.network new counts
   pub pages_are : Honest → journal_pages ≡ stored.journal_pages
 
 -- opening is refused; or a store was opened, and its network could not be brought to the new map
 abbrev pub MayRefuseStored : Type 0 → List ℕ → Net → Refusal → Type 0
-MayRefuseStored Honest file old refusal = IsUnopened Honest file refusal ⊎ ((stored : Told) × (Honest → HasTold file stored) × MayRefuseUpgrade stored.network old refusal)
+MayRefuseStored Honest file old refusal = IsStoreUnopened Honest file refusal ⊎ ((stored : Told) × (Honest → HasTold file stored) × MayRefuseUpgrade stored.network old refusal)
 
 -- the same of the maps of two texts, with the room that is given, if one is
 pub record IsUpgradeOf (Honest : Type 0) (file before after : List ℕ) (room : Option ℕ) (made : Net) (counts : Counts) (journal_pages : ℕ) : Type 0 where

@@ -12,13 +12,13 @@ ghost use Rattle.store.specs.State.{CameTidy};
 ghost use Rattle.printing.specs.Counting.{writer_of};
 ghost use Rattle.printing.specs.Failing.{CountsReads};
 ghost use Rattle.printing.specs.Writers.{KeepsWriter, OnlyWriterFails};
-ghost use Rattle.storetexts.specs.Applied.{ForTidy, IsApplied, IsCutOff, IsTold, StandsForBeginningOfText, AtAnyMoment, IsRefusedApply, IfTextOrFileRefused};
+ghost use Rattle.storetexts.specs.Applied.{ForTidy, IsApplied, IsCutOff, AreGroupsTold, StandsForBeginningOfText, AtAnyMoment, IsRefusedApply, IfTextOrFileRefused};
 ghost use Rattle.storetexts.specs.Applying.{IsReady, IsIdle, IsNew, GroupsTaken, ForNewLedger, IfTold, LinesTold};
 ghost use Rattle.storetexts.specs.Applying.{progress, TakesGroup, KeepsGroups, GroupsTakenSince, FirstGroupsTakenSince, OutcomesSettled};
-ghost use Rattle.storetexts.specs.Applying.{LinesFollow, OutcomesTold, Goes, Saves, Advances, Applies};
+ghost use Rattle.storetexts.specs.Applying.{LinesFollow, OutcomesTold, Goes, Saves, Advances, AppliesGroups};
 ghost use Rattle.store.specs.Opening.{HeaderFits, IsPassing};
-ghost use Rattle.storetexts.specs.Asked.{OfStore, IsUnopened};
-ghost use Rattle.storetexts.specs.Outcomes.{IsSettled, IsUnsettledAt};
+ghost use Rattle.storetexts.specs.Asked.{OfStore, IsStoreUnopened};
+ghost use Rattle.storetexts.specs.Outcomes.{IsGroupSettled, IsUnsettledAt};
 ghost use Rattle.storetexts.specs.Refused.{ComesBack, CountsDevice, IfNoMemory, IsOfStore};
 
 use crate::outcomes::{Outcome, reply_of};
@@ -129,7 +129,7 @@ impl<D: Disk> Applying<D> {
 
     /// Whether the outcome may be reported: the group is durable, or was refused.
     fn is_settled(&self, outcome: &Outcome) -> bool
-        ensures { Decides result (IsSettled self.now.ledger.machine.durable outcome.now) }
+        ensures { Decides result (IsGroupSettled self.now.ledger.machine.durable outcome.now) }
     {
         match outcome {
             Outcome::Accepted { number } => *number <= self.ledger.durable(),
@@ -283,7 +283,7 @@ fn ledger_on<D: Disk>(alloc: Global, disk: D) -> Result<Ledger<D>, (Refusal, D)>
     ensures opened { IfOk result (λ ledger. OfStore (D.honest disk) (D.content disk) (λ net version. GroupsTaken net version [] [] 0 ledger.machine)) }
     ensures disk { MatchResult result (λ ledger. ComesBack D.Disk (D.failures disk) disk ledger.disk)
         (λ refused. ComesBack D.Disk (failures_with refused.0 (D.failures disk)) disk refused.1) }
-    ensures refused { IfErr result (λ refused. IsUnopened (D.honest disk) (D.content disk) refused.0) }
+    ensures refused { IfErr result (λ refused. IsStoreUnopened (D.honest disk) (D.content disk) refused.0) }
     ensures order { D.honest disk → IfErr result (λ refused. refused.0 ≡ out_of_memory → HeaderFits (D.content disk)) }
     ensures fits { D.honest disk → OnOk result (HeaderFits (D.content disk)) }
 {
@@ -303,7 +303,7 @@ fn apply_groups<D: Disk, H: HearsRefusals, W: Write>(
     out: &mut CountedWriter<'_, W>,
 ) -> (Result<(), Failed>, D)
     requires idle { IsIdle ledger.machine }
-    ensures applies { Applies D.Disk ledger groups.now result.0 result.1 (W.contents (writer_of out.old)) (W.contents (writer_of out.new)) }
+    ensures applies { AppliesGroups D.Disk ledger groups.now result.0 result.1 (W.contents (writer_of out.old)) (W.contents (writer_of out.new)) }
     ensures writer { KeepsWriter result.0 out.old out.new }
 {
     let outcomes = match Vec::with_capacity(alloc, groups.len()) {
@@ -355,7 +355,7 @@ pub fn apply_text<D: Disk, S: Text, H: HearsRefusals, W: Write>(
         (λ text. AtAnyMoment D.moment D.left_since D.left disk result.1 (StandsForBeginningOfText net version text))) }
     // On any disk: Ok means that a store was opened, and that all groups of the text have their lines.
     ensures told { OnOk result.0 (IfSome (S.bytes commands.old)
-        (λ text. IsTold (D.honest disk) (D.content disk) text (W.contents (writer_of out.old)) (W.contents (writer_of out.new)))) }
+        (λ text. AreGroupsTold (D.honest disk) (D.content disk) text (W.contents (writer_of out.old)) (W.contents (writer_of out.new)))) }
     ensures refused { IfErr result.0 (λ failed. IfSome (S.bytes commands.old)
         (λ text. IsRefusedApply (D.honest disk) (D.content disk) text (S.source commands.new) failed)) }
     ensures codes { IfErr result.0 IsOfStore }

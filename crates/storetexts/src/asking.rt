@@ -12,7 +12,7 @@ ghost use Rattle.printing.specs.Writers.{KeepsWriter};
 ghost use Rattle.querytexts.specs.Route.{AnswersAs};
 ghost use Rattle.querytexts.specs.Once.{Answers};
 ghost use Rattle.store.specs.Opening.{HeaderFits};
-ghost use Rattle.storetexts.specs.Asked.{IsAsked, IsRefusedAsk};
+ghost use Rattle.storetexts.specs.Asked.{IsStoreAsked, IsRefusedAsk};
 ghost use Rattle.storetexts.specs.Refused.{CountsDevice, IfNoMemory, IsOfStore};
 
 use dimacs::{Pair, Text, read_p2p};
@@ -95,7 +95,7 @@ pub fn ask_text<T: Threads, D: Disk, S: Text, W: Write>(
     ensures width { IfOk result.0 (λ done. told_width done ≡ delta) }
     // On any disk the answers are right in the network of the store that was opened.
     ensures answered { OnOk result.0 (IfSome (S.bytes p2p.old)
-        (λ text. IsAsked routes (D.honest disk) (D.content disk) text (W.contents (writer_of out.old)) (W.contents (writer_of out.new)))) }
+        (λ text. IsStoreAsked routes (D.honest disk) (D.content disk) text (W.contents (writer_of out.old)) (W.contents (writer_of out.new)))) }
     ensures refused { IfErr result.0 (λ failed. IfSome (S.bytes p2p.old) (λ text. IsRefusedAsk (D.honest disk) (D.content disk) text (S.source p2p.new) failed)) }
     ensures codes { IfErr result.0 IsOfStore }
     // Lack of memory is reported only if the header fits the file.

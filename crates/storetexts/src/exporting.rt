@@ -2,8 +2,8 @@
 ghost use Rattle.std.specs.Prelude.{OnOk};
 ghost use Rattle.printing.specs.Counting.{writer_of};
 ghost use Rattle.printing.specs.Writers.{Puts};
-ghost use Rattle.printing.specs.Exports.{text_of, exported_rows, Says, Writes};
-ghost use Rattle.storetexts.specs.Exported.{origin_of, ExportRestores};
+ghost use Rattle.printing.specs.Exports.{text_of, exported_rows, SaysExported, WritesText};
+ghost use Rattle.storetexts.specs.Exported.{store_origin_of, ExportRestores};
 
 use disk::Disk;
 use printing::{CountedWriter, Exported, Failed, Origin, put_exported};
@@ -20,8 +20,8 @@ pub fn export_text<D: Disk, W: Write>(
     text: Exported,
     out: &mut CountedWriter<'_, W>,
 ) -> Result<(), Failed>
-    ensures spelled { Puts W.contents (text_of (exported_rows text store.now.network (origin_of store.now.version store.now.journal_pages))) result out.old out.new }
-    ensures written { OnOk result (Writes (Says text store.now.network) (W.contents (writer_of out.old)) (W.contents (writer_of out.new))) }
+    ensures spelled { Puts W.contents (text_of (exported_rows text store.now.network (store_origin_of store.now.version store.now.journal_pages))) result out.old out.new }
+    ensures written { OnOk result (WritesText (SaysExported text store.now.network) (W.contents (writer_of out.old)) (W.contents (writer_of out.new))) }
 {
     let origin = Origin {
         version: store.version(),

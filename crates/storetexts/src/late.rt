@@ -1,7 +1,7 @@
 // A disk that is made at the first call of it.
 ghost use Rattle.std.specs.Prelude.{◌≡◌, ◌≤◌, ◌↔◌, ℕ, Option, [], None, Some};
 ghost use Rattle.disk.specs.Contents.{failures_after};
-ghost use Rattle.storetexts.specs.Late.{standing, of_disk, holds_of, GivesKnown};
+ghost use Rattle.storetexts.specs.Late.{made_or_known, of_disk, holds_of, GivesKnown};
 
 use disk::{Disk, DiskError};
 use printing::Failed;
@@ -70,8 +70,8 @@ impl<M, D> LateDisk<M, D> {
 impl<D: Disk + Drop, M: MakesDisk<D>> LateDisk<M, D> {
     /// Makes the disk, unless a call was made before.
     fn see_made(&mut self)
-        ensures stands { holds_of D.honest (standing self.old.made (M.makes self.old.maker)) → standing self.new.made (M.makes self.new.maker) ≡ standing self.old.made (M.makes self.old.maker) }
-        ensures honest { holds_of D.honest (standing self.new.made (M.makes self.new.maker)) → holds_of D.honest (standing self.old.made (M.makes self.old.maker)) }
+        ensures stands { holds_of D.honest (made_or_known self.old.made (M.makes self.old.maker)) → made_or_known self.new.made (M.makes self.new.maker) ≡ made_or_known self.old.made (M.makes self.old.maker) }
+        ensures honest { holds_of D.honest (made_or_known self.new.made (M.makes self.new.maker)) → holds_of D.honest (made_or_known self.old.made (M.makes self.old.maker)) }
         ensures failures { self.new.failures ≡ self.old.failures }
     {
         if self.made.is_some() || self.refused.is_some() {
@@ -85,17 +85,17 @@ impl<D: Disk + Drop, M: MakesDisk<D>> LateDisk<M, D> {
 }
 
 impl<D: Disk + Drop, M: MakesDisk<D>> Disk for LateDisk<M, D> {
-    ghost content = { λ late. of_disk D.content [] (standing late.made (M.makes late.maker)) };
+    ghost content = { λ late. of_disk D.content [] (made_or_known late.made (M.makes late.maker)) };
 
-    ghost left = { λ late c. holds_of (λ disk. D.left disk c) (standing late.made (M.makes late.maker)) };
+    ghost left = { λ late c. holds_of (λ disk. D.left disk c) (made_or_known late.made (M.makes late.maker)) };
 
-    ghost moment = { λ late. of_disk D.moment 0 (standing late.made (M.makes late.maker)) };
+    ghost moment = { λ late. of_disk D.moment 0 (made_or_known late.made (M.makes late.maker)) };
 
-    ghost left_since = { λ late t c. holds_of (λ disk. D.left_since disk t c) (standing late.made (M.makes late.maker)) };
+    ghost left_since = { λ late t c. holds_of (λ disk. D.left_since disk t c) (made_or_known late.made (M.makes late.maker)) };
 
     ghost failures = { λ late. late.failures };
 
-    ghost honest = { λ late. holds_of D.honest (standing late.made (M.makes late.maker)) };
+    ghost honest = { λ late. holds_of D.honest (made_or_known late.made (M.makes late.maker)) };
 
     fn len(&mut self) -> Result<u64, DiskError> {
         self.see_made();
@@ -133,17 +133,17 @@ impl<D: Disk + Drop, M: MakesDisk<D>> Disk for LateDisk<M, D> {
         counted(&mut self.failures, outcome)
     }
 
-    ghost leaves_content = { λ late. elim (standing late.made (M.makes late.maker)) as (λ stands. holds_of D.honest stands → holds_of (λ disk. D.left disk (of_disk D.content [] stands)) stands) [
+    ghost leaves_content = { λ late. elim (made_or_known late.made (M.makes late.maker)) as (λ stands. holds_of D.honest stands → holds_of (λ disk. D.left disk (of_disk D.content [] stands)) stands) [
       | None ↦ λ h. absurd h
       | Some disk ↦ D.leaves_content disk
     ] };
 
-    ghost counts_now = { λ late t c. elim (standing late.made (M.makes late.maker)) as (λ stands. holds_of D.honest stands → t ≤ of_disk D.moment 0 stands → holds_of (λ disk. D.left disk c) stands → holds_of (λ disk. D.left_since disk t c) stands) [
+    ghost counts_now = { λ late t c. elim (made_or_known late.made (M.makes late.maker)) as (λ stands. holds_of D.honest stands → t ≤ of_disk D.moment 0 stands → holds_of (λ disk. D.left disk c) stands → holds_of (λ disk. D.left_since disk t c) stands) [
       | None ↦ λ h. absurd h
       | Some disk ↦ D.counts_now disk t c
     ] };
 
-    ghost only_now = { λ late c. elim (standing late.made (M.makes late.maker)) as (λ stands. holds_of D.honest stands → holds_of (λ disk. D.left_since disk (of_disk D.moment 0 stands) c) stands → holds_of (λ disk. D.left disk c) stands) [
+    ghost only_now = { λ late c. elim (made_or_known late.made (M.makes late.maker)) as (λ stands. holds_of D.honest stands → holds_of (λ disk. D.left_since disk (of_disk D.moment 0 stands) c) stands → holds_of (λ disk. D.left disk c) stands) [
       | None ↦ λ h. absurd h
       | Some disk ↦ D.only_now disk c
     ] };

@@ -9,7 +9,7 @@ ghost use Rattle.printing.specs.Counting.{failed_writes, writer_of, IsSameWriter
 ghost use Rattle.printing.specs.Failing.{CountsWrites, LeavesUnwritten};
 ghost use Rattle.printing.specs.Replied.{number_line};
 ghost use Rattle.printing.specs.Writers.{KeepsWriter};
-ghost use Rattle.storetexts.specs.Moved.{CountsMove, IsMoved, IsOfMove, IsRefusedForNew, IsRefusedForOld, TellsMoved};
+ghost use Rattle.storetexts.specs.Moved.{CountsMove, IsMoved, IsOfMove, IsMoveRefusedForNew, IsMoveRefusedForOld, TellsMoved};
 ghost use Rattle.storetexts.specs.Refused.{IfDone, IfNoDevice};
 
 use disk::Disk;
@@ -67,8 +67,8 @@ pub fn copy_text<O: Disk, D: Disk, W: Write>(
     ensures told { OnOk result.0 (TellsMoved two (O.honest old.old) (O.content old.old) (W.contents (writer_of out.old)) (W.contents (writer_of out.new))) }
     // Each refusal depends on one disk: 46 on the new one, which is empty at every other refusal except 43; 40 to 42, 9 and 11 on the old one. Whatever the
     // disks, it is one of these, or 43 or 12.
-    ensures refused_for_new { D.honest new → IfErr result.0 (IsRefusedForNew (D.content new)) }
-    ensures refused_for_old { O.honest old.old → IfErr result.0 (IsRefusedForOld two (O.content old.old) room) }
+    ensures refused_for_new { D.honest new → IfErr result.0 (IsMoveRefusedForNew (D.content new)) }
+    ensures refused_for_old { O.honest old.old → IfErr result.0 (IsMoveRefusedForOld two (O.content old.old) room) }
     ensures codes { IfErr result.0 IsOfMove }
     ensures empty { D.honest new → IfDone result.0 (D.content new ≡ []) }
     // If 43 is reported, one call of one of the disks has failed; otherwise none has.
@@ -103,8 +103,8 @@ pub fn migrate_text<O: Disk, D: Disk, W: Write>(
     ensures told { OnOk result.0 (TellsMoved one (O.honest old.old) (O.content old.old) (W.contents (writer_of out.old)) (W.contents (writer_of out.new))) }
     // Each refusal depends on one disk: 46 on the new one, which is empty at every other refusal except 43; 40 to 42, 9 and 11 on the old one. Whatever the
     // disks, it is one of these, or 43 or 12.
-    ensures refused_for_new { D.honest new → IfErr result.0 (IsRefusedForNew (D.content new)) }
-    ensures refused_for_old { O.honest old.old → IfErr result.0 (IsRefusedForOld one (O.content old.old) room) }
+    ensures refused_for_new { D.honest new → IfErr result.0 (IsMoveRefusedForNew (D.content new)) }
+    ensures refused_for_old { O.honest old.old → IfErr result.0 (IsMoveRefusedForOld one (O.content old.old) room) }
     ensures codes { IfErr result.0 IsOfMove }
     ensures empty { D.honest new → IfDone result.0 (D.content new ≡ []) }
     // If 43 is reported, one call of one of the disks has failed; otherwise none has.

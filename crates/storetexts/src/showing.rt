@@ -6,7 +6,7 @@ ghost use Rattle.printing.specs.Counting.{writer_of};
 ghost use Rattle.printing.specs.Failing.{LeavesUnwritten};
 ghost use Rattle.printing.specs.Looks.{look_lines};
 ghost use Rattle.store.specs.Opening.{HeaderFits};
-ghost use Rattle.storetexts.specs.Shown.{IsShown, IsRefusedShow};
+ghost use Rattle.storetexts.specs.Shown.{IsStoreShown, IsRefusedShow};
 ghost use Rattle.storetexts.specs.Refused.{IfNoMemory, CountsDevice};
 ghost use Rattle.printing.specs.Writers.{KeepsWriter, Puts};
 
@@ -43,7 +43,7 @@ pub fn show_text<D: Disk, W: Write>(
     out: &mut CountedWriter<'_, W>,
 ) -> (Result<(), Failed>, D)
     // The lines are those of the network and the version that the content stands for.
-    ensures answered { OnOk result.0 (IsShown (D.honest disk) (D.content disk) look (W.contents (writer_of out.old)) (W.contents (writer_of out.new))) }
+    ensures answered { OnOk result.0 (IsStoreShown (D.honest disk) (D.content disk) look (W.contents (writer_of out.old)) (W.contents (writer_of out.new))) }
     ensures refused { IfErr result.0 (IsRefusedShow (D.honest disk) (D.content disk)) }
     ensures order { D.honest disk → IfErr result.0 (λ failed. IfNoMemory failed (HeaderFits (D.content disk))) }
     // The disk's count of failures rises if 43 is reported. At no other refusal does it rise, except perhaps at a failed write.

@@ -13,7 +13,7 @@ ghost use Rattle.querytexts.specs.Batch.{AnswersAll};
 ghost use Rattle.querytexts.specs.Once.{Answers};
 ghost use Rattle.querytexts.specs.Table.{pairs_between};
 ghost use Rattle.store.specs.Opening.{HeaderFits};
-ghost use Rattle.storetexts.specs.Asked.{IsTableAsked, IsRefusedTable};
+ghost use Rattle.storetexts.specs.Asked.{IsTableAsked, IsRefusedStoreTable};
 ghost use Rattle.storetexts.specs.Refused.{CountsDevice, IfNoMemory, IsOfTwoTexts};
 
 use dimacs::{Text, read_nodes};
@@ -84,7 +84,7 @@ pub fn ask_table_text<T: Threads, D: Disk, P: Text, Q: Text, W: Write>(
     ensures answered { OnOk result.0 (IfSome (P.bytes sources.old) (λ from. IfSome (Q.bytes targets.old)
         (λ to. IsTableAsked (D.honest disk) (D.content disk) from to (W.contents (writer_of out.old)) (W.contents (writer_of out.new))))) }
     ensures refused { IfErr result.0 (λ failed. IfSome (P.bytes sources.old) (λ from. IfSome (Q.bytes targets.old)
-        (λ to. IsRefusedTable (D.honest disk) (D.content disk) from to (P.source sources.new) (Q.source targets.new) failed))) }
+        (λ to. IsRefusedStoreTable (D.honest disk) (D.content disk) from to (P.source sources.new) (Q.source targets.new) failed))) }
     ensures codes { IfErr result.0 IsOfTwoTexts }
     // Lack of memory is reported only if the header fits the file.
     ensures order { D.honest disk → IfErr result.0 (λ failed. IfNoMemory failed (HeaderFits (D.content disk))) }

@@ -19,5 +19,5 @@ pub record Supposes (version : ℕ) (net : Net) (group : List Command) (supposed
   pub after : step_group net group ≡ Some supposed.network
 
 -- why nothing is told: a node that is asked about isn't there (24), or, where all are, want of memory (11)
-abbrev pub IsUnanswered : Type 0 → Refusal → Type 0
-IsUnanswered There refusal = ((refusal ≡ NoSuchNode) × ¬ There) ⊎ ((refusal ≡ OutOfMemory) × There)
+abbrev pub IsSuppositionUnanswered : Type 0 → Refusal → Type 0
+IsSuppositionUnanswered There refusal = ((refusal ≡ NoSuchNode) × ¬ There) ⊎ ((refusal ≡ OutOfMemory) × There)

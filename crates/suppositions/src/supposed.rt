@@ -9,7 +9,7 @@ ghost use Rattle.roadnet.specs.Step.{is_node};
 ghost use Rattle.rows.specs.Backs.{LeadsBack};
 ghost use Rattle.rows.specs.declared.queries.Query.TheVariants.{Dist, From};
 ghost use Rattle.rows.specs.Nearby.{are_pairs, node_of, IsNear, IsUntold};
-ghost use Rattle.rows.specs.Replies.{refusal_of, IsRight};
+ghost use Rattle.rows.specs.Replies.{query_refusal_of, IsRight};
 ghost use Rattle.rows.specs.Views.{AreRight};
 ghost use Rattle.routes.specs.RouteReplies.{IsRightRoute};
 ghost use Rattle.suppositions.specs.Supposing.{Supposes};
@@ -174,7 +174,7 @@ impl Supposed {
         target: u64,
     ) -> Result<Reply, OutOfMemory>
         ensures right { IfOk result (IsRight self.old.network (Dist source target)) }
-        ensures refused { IsSome (refusal_of self.old.network (Dist source target)) → IsOk result }
+        ensures refused { IsSome (query_refusal_of self.old.network (Dist source target)) → IsOk result }
         ensures same { self.new ≡ self.old }
     {
         let asker = Asker::of(self.version, &self.network, &self.groups);
@@ -193,7 +193,7 @@ impl Supposed {
         target: u64,
     ) -> Result<Reply, OutOfMemory>
         ensures right { IfOk result (IsRight self.old.network (From landmark target)) }
-        ensures refused { IsSome (refusal_of self.old.network (From landmark target)) → IsOk result }
+        ensures refused { IsSome (query_refusal_of self.old.network (From landmark target)) → IsOk result }
         ensures same { self.new ≡ self.old }
     {
         let asker = Asker::of(self.version, &self.network, &self.groups);
@@ -265,7 +265,7 @@ impl Supposed {
         target: u64,
     ) -> Result<RouteReply, OutOfMemory>
         ensures right { IfOk result (IsRightRoute self.old.network source target) }
-        ensures refused { IsSome (refusal_of self.old.network (Dist source target)) → IsOk result }
+        ensures refused { IsSome (query_refusal_of self.old.network (Dist source target)) → IsOk result }
         ensures same { self.new ≡ self.old }
     {
         if !self.network.has_node(source) || !self.network.has_node(target) {

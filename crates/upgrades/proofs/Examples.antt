@@ -2,7 +2,7 @@
 use Rattle.std.proofs.Common.{◌≡◌, ℕ, true, false, [], ◌∷◌, Some, None, refl}
 use Rattle.roadnet.specs.declared.arcs.RoadArc.{RoadArc}
 use Rattle.roadnet.specs.Net.{Net}
-use Rattle.upgrades.specs.Upgrading.{parallels, counterpart, upgraded_arc, kept, alone, doubtful}
+use Rattle.upgrades.specs.Upgrading.{parallels, counterpart, upgraded_arc, arcs_kept, arcs_alone, doubtful}
 
 abbrev open_arc : ℕ → ℕ → ℕ → RoadArc
 open_arc tail head length = record { tail = tail; head = head; length = length; opened = true }
@@ -63,13 +63,13 @@ laid_length_stays = refl
 doubtful_as_in_map : upgraded_arc stored old new 6 (open_arc 4 5 4) ≡ open_arc 4 5 4
 doubtful_as_in_map = refl
 
-five_kept : kept stored.arcs new.arcs ≡ 5
+five_kept : arcs_kept stored.arcs new.arcs ≡ 5
 five_kept = refl
 
-one_added : alone new.arcs stored.arcs ≡ 1
+one_added : arcs_alone new.arcs stored.arcs ≡ 1
 one_added = refl
 
-two_gone : alone stored.arcs new.arcs ≡ 2
+two_gone : arcs_alone stored.arcs new.arcs ≡ 2
 two_gone = refl
 
 two_doubtful : doubtful stored.arcs new.arcs ≡ 2

@@ -14,7 +14,7 @@ use Rattle.roadnet.specs.Net.{Net, IsNetwork, nth}
 use Rattle.upgrades.specs.Counterparts.{part_of, AreCounterparts}
 use Rattle.upgrades.specs.Laws.{EachIsCounted}
 use Rattle.upgrades.specs.Ordered.{pair_at, AreByEnds}
-use Rattle.upgrades.specs.Upgrading.{agree, lacks, parallels, place_among, kept, alone}
+use Rattle.upgrades.specs.Upgrading.{agree, lacks, parallels, place_among, arcs_kept, arcs_alone}
 use Rattle.upgrades.proofs.Joining.{contains_itself, few_arcs, parallels_rise, parallels_sorted, parallels_within, short_head, some_tail}
 use Rattle.upgrades.proofs.Matching.{IsGroup, group_is, length_slice, part_by}
 use Rattle.upgrades.proofs.Rising.{Contains-filter}
@@ -90,7 +90,7 @@ has_part stored new k arc at =
       | inr fails ↦ ap (λ (b : Bool). not (eqb (cond b (get_or (parallels stored arc.tail arc.head) (place_among (parallels new arc.tail arc.head) k) 0) 0) 0)) fails ∙ sym fails
     ]
 
-pub kept_is : (stored new : List RoadArc) (parts : List ℕ) → AreCounterparts stored new parts → count_by (λ part. not (eqb part 0)) (drop 1 parts) ≡ kept stored new
+pub kept_is : (stored new : List RoadArc) (parts : List ℕ) → AreCounterparts stored new parts → count_by (λ part. not (eqb part 0)) (drop 1 parts) ≡ arcs_kept stored new
 kept_is stored new parts are =
     count_same (λ part. not (eqb part 0)) (λ (arc : RoadArc). agree stored new arc.tail arc.head) (drop 1 parts) new (omega (arith, length-drop 1 parts, are.count)) (λ k d e lt.
     let within : k < length (drop 1 parts) = omega (arith, length-drop 1 parts, are.count, lt) in
@@ -118,7 +118,7 @@ module _ (network other : Net) (is_network : IsNetwork network) (is_other : IsNe
       ap (λ (q : ℕ). eqb (length (filter (λ j. eqb (pair_at other.arcs j) q) others)) 0) pair
       ∙ ap (λ (xs : List ℕ). eqb (length xs) 0) (sym (parallels_sorted other is_other others others_sorted arc.tail arc.head (some_tail network is_network k arc at) (short_head network is_network k arc at)))
 
-  pub alone_is : count_by (is_alone network other others) numbers ≡ alone network.arcs other.arcs
+  pub alone_is : count_by (is_alone network other others) numbers ≡ arcs_alone network.arcs other.arcs
   alone_is =
       let long = length-range_with_len 1 (length network.arcs) in
       sum_by-IsPermutation (λ k. cond (is_alone network other others k) 1 0) (range_with_len 1 (length network.arcs)) numbers sorted.all
@@ -200,5 +200,5 @@ module _ (network other : Net) (is_network : IsNetwork network) (is_other : IsNe
           subst (λ (m : ℕ). IsCounted network other numbers others m from' (index + 1)) (sym one) (counted_yes none)
     ])
 
-  pub counted_all : (count from index : ℕ) → length numbers ≤ index → IsCounted network other numbers others count from index → count ≡ alone network.arcs other.arcs
+  pub counted_all : (count from index : ℕ) → length numbers ≤ index → IsCounted network other numbers others count from index → count ≡ arcs_alone network.arcs other.arcs
   counted_all count from index end so_far = so_far.count_is ∙ (ap (count_by (is_alone network other others)) (take_all index numbers end) ∙ alone_is)

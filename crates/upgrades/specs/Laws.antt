@@ -3,11 +3,11 @@ use Rattle.std.specs.Prelude.{◌≡◌, ℕ, ◌+◌, List, length, Some}
 use Rattle.roadnet.specs.declared.arcs.RoadArc.{RoadArc}
 use Rattle.roadnet.specs.Ends.{KeepsEnds}
 use Rattle.roadnet.specs.Net.{Net, arc_at}
-use Rattle.upgrades.specs.Upgrading.{kept, alone, doubtful, upgraded_arc}
+use Rattle.upgrades.specs.Upgrading.{arcs_kept, arcs_alone, doubtful, upgraded_arc}
 
 -- Each arc of the map is kept, added or doubtful, and only one of these.
 abbrev pub EachIsCounted : Type 0
-EachIsCounted = (stored new : List RoadArc) → kept stored new + alone new stored + doubtful stored new ≡ length new
+EachIsCounted = (stored new : List RoadArc) → arcs_kept stored new + arcs_alone new stored + doubtful stored new ≡ length new
 
 -- Brought to the map that it was made of, a network to which no arc was added keeps each arc as it is.
 abbrev pub SameMapChangesNothing : Type 0

@@ -69,12 +69,12 @@ pub record IsUpgraded (stored old new made : Net) : Type 0 where
 -- HOW MANY
 
 -- the arcs of the map that have as many of their ends in the stored network: those with a counterpart
-abbrev pub kept : List RoadArc → List RoadArc → ℕ
-kept stored new = count_by (λ arc. agree stored new arc.tail arc.head) new
+abbrev pub arcs_kept : List RoadArc → List RoadArc → ℕ
+arcs_kept stored new = count_by (λ arc. agree stored new arc.tail arc.head) new
 
 -- the arcs of the first network whose ends no arc of the second has
-abbrev pub alone : List RoadArc → List RoadArc → ℕ
-alone arcs others = count_by (λ arc. lacks others arc.tail arc.head) arcs
+abbrev pub arcs_alone : List RoadArc → List RoadArc → ℕ
+arcs_alone arcs others = count_by (λ arc. lacks others arc.tail arc.head) arcs
 
 -- the arcs of the map that have some of their ends in the stored network, but not as many
 abbrev pub doubtful : List RoadArc → List RoadArc → ℕ
@@ -82,13 +82,13 @@ doubtful stored new = count_by (λ arc. not (agree stored new arc.tail arc.head)
 
 -- what became of the arcs
 pub record CountsArcs (stored new : List RoadArc) (counts : Counts) : Type 0 where
-  pub kept_is : counts.kept ≡ kept stored new
-  pub added_is : counts.added ≡ alone new stored
-  pub gone_is : counts.gone ≡ alone stored new
+  pub kept_is : counts.kept ≡ arcs_kept stored new
+  pub added_is : counts.added ≡ arcs_alone new stored
+  pub gone_is : counts.gone ≡ arcs_alone stored new
   pub doubtful_is : counts.doubtful ≡ doubtful stored new
 
 -- what became of arcs and landmarks
-pub record AreCounts (stored new : Net) (counts : Counts) : Type 0 where
+pub record AreUpgradeCounts (stored new : Net) (counts : Counts) : Type 0 where
   pub arcs : CountsArcs stored.arcs new.arcs counts
   pub landmarks_gone_is : counts.landmarks_gone ≡ count_by (λ x. not (is_node new x)) stored.landmarks
 

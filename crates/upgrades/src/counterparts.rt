@@ -4,7 +4,7 @@ ghost use Rattle.std.specs.Prelude.{◌≡◌, ℕ, ◌≤◌, ◌<◌, All, len
 ghost use Rattle.roadnet.specs.Net.{IsNetwork};
 ghost use Rattle.upgrades.specs.Ordered.{AreByEnds};
 ghost use Rattle.upgrades.specs.Counterparts.{AreCounterparts, SaysParts, part_in};
-ghost use Rattle.upgrades.specs.Upgrading.{alone};
+ghost use Rattle.upgrades.specs.Upgrading.{arcs_alone};
 
 use crate::ordered::{end_of, first_from, has_pair_at, pair_at};
 use roadnet::{Network, OutOfMemory};
@@ -77,7 +77,7 @@ pub fn count_alone(network: &Network, numbers: &[u32], other: &Network, others: 
     requires other { IsNetwork other.now }
     requires numbers { AreByEnds network.now.arcs numbers.now }
     requires others { AreByEnds other.now.arcs others.now }
-    ensures { result ≡ alone network.now.arcs other.now.arcs }
+    ensures { result ≡ arcs_alone network.now.arcs other.now.arcs }
 {
     let mut count = 0;
     let mut from = 0;

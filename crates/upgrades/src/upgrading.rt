@@ -7,7 +7,7 @@ ghost use Rattle.roadnet.specs.declared.commands.Command.TheVariants.{Mark};
 ghost use Rattle.roadnet.specs.Step.{changed, is_landmark, is_node};
 ghost use Rattle.upgrades.specs.Counterparts.{AreCounterparts};
 ghost use Rattle.upgrades.specs.Ordered.{AreByEnds};
-ghost use Rattle.upgrades.specs.Upgrading.{IsUpgraded, CountsArcs, AreCounts, MayRefuseUpgrade};
+ghost use Rattle.upgrades.specs.Upgrading.{IsUpgraded, CountsArcs, AreUpgradeCounts, MayRefuseUpgrade};
 
 use crate::counterparts::{count_alone, counterparts};
 use crate::counts::Counts;
@@ -120,7 +120,7 @@ pub fn upgraded(
 ) -> Result<(Network, Counts), Refusal>
     requires bare { new.landmarks ≡ [] }
     ensures made { IfOk result (λ made. IsUpgraded stored.now old.now new made.0) }
-    ensures counted { IfOk result (λ made. AreCounts stored.now new made.1) }
+    ensures counted { IfOk result (λ made. AreUpgradeCounts stored.now new made.1) }
     ensures of_old { OnOk result (KeepsEnds old.now stored.now) }
     ensures refused { IfErr result (MayRefuseUpgrade stored.now old.now) }
 {

@@ -4,8 +4,8 @@ use Rattle.std.specs.Option.{ForSome}
 use Rattle.clap.specs.declared.parser.matches.Found.{Found}
 use Rattle.words.specs.declared.words.Job.{Job}
 use Rattle.words.specs.declared.words.Job.TheVariants.{Joint, Once, Route, Batch, Reach, Reached, Rehearse, Create, Apply, Ask, Serve, Copy}
-use Rattle.words.specs.Pipes.{AreFit}
-use Rattle.words.specs.Words.{Gives, GivesOr, GivesParts, HasFitParts, IsJournal, IsWidth, IsWorkers}
+use Rattle.words.specs.Pipes.{ArePipesFit}
+use Rattle.words.specs.Words.{GivesNumber, GivesOr, GivesParts, HasFitParts, IsJournal, IsWidth, IsWorkers}
 
 none_fit : (IsFit : ℕ → Type 0) → ForSome None IsFit
 none_fit IsFit number e = absurd cc
@@ -14,7 +14,7 @@ some_fit : (IsFit : ℕ → Type 0) (number : ℕ) → IsFit number → ForSome 
 some_fit IsFit number fits other e = let same : number ≡ other = ap (λ (o : Option ℕ). unwrap_or o number) e in subst IsFit same fits
 
 module _ (found : Found) (name : List ℕ) (IsFit : ℕ → Type 0) where
-  given_fit : (number : Option ℕ) → Gives found name IsFit number → ForSome number IsFit
+  given_fit : (number : Option ℕ) → GivesNumber found name IsFit number → ForSome number IsFit
   given_fit None given = none_fit IsFit
   given_fit (Some number) given = some_fit IsFit number given.0
 
@@ -22,7 +22,7 @@ module _ (found : Found) (name : List ℕ) (IsFit : ℕ → Type 0) where
   other_fit other number fits (inl given) = some_fit IsFit number given.0
   other_fit other number fits (inr same) = some_fit IsFit number (subst IsFit (sym same.0) fits)
 
-no_pipes : AreFit []
+no_pipes : ArePipesFit []
 no_pipes = (omega arith, λ later less. absurd (omega arith))
 
 pub parts_fit : (found : Found) (job : Job) → GivesParts found job → HasFitParts job

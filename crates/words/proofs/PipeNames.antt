@@ -10,7 +10,7 @@ use Rattle.std.proofs.lemmas.Option.{slice_get-map, slice_get-get_or}
 use Rattle.words.specs.declared.pipes.Misfit.{Misfit}
 use Rattle.words.specs.declared.pipes.Misfit.TheVariants.{LonePipe}
 use Rattle.std.specs.Borrow.{Bor}
-use Rattle.words.specs.Pipes.{names_of, texts, AreDifferent, AreFit, AreMisfit, ArePairs, AreUnfit, AskBehind}
+use Rattle.words.specs.Pipes.{names_of, texts, AreDifferent, ArePipesFit, AreMisfit, ArePairs, AreUnfit, AskBehind}
 use Rattle.words.specs.declared.pipes.PipePair.{PipePair}
 
 -- a pair more has two names more
@@ -87,7 +87,7 @@ name_past pairs n beyond = let two = length-names_of pairs in past (names_of pai
 
 -- pairs of so many different names are fit
 pub fit_of : {V : Type 0} (items_of : V → List PipePair) (result : Result V Misfit) (words : List (Bor (List ℕ))) → length words ≤ 120 → AreDifferent (texts words)
-    → IfOk result (λ pairs. names_of (items_of pairs) ≡ texts words) → IfOk result (λ pairs. AreFit (items_of pairs))
+    → IfOk result (λ pairs. names_of (items_of pairs) ≡ texts words) → IfOk result (λ pairs. ArePipesFit (items_of pairs))
 fit_of items_of (Ok pairs) words most different same =
     let two = length-names_of (items_of pairs) in
     let long = ap length same ∙ length-map words (λ (w : Bor (List ℕ)). w.now) in (

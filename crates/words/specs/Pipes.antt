@@ -27,8 +27,8 @@ abbrev pub AreDifferent : List (List ℕ) → Type 0
 AreDifferent names = (later : ℕ) → later < length names → ¬ StandsBefore names later
 
 -- pairs that may be served: sixty at most, and no pipe stands in them twice
-abbrev pub AreFit : List PipePair → Type 0
-AreFit pairs = (length pairs ≤ 60) × AreDifferent (names_of pairs)
+abbrev pub ArePipesFit : List PipePair → Type 0
+ArePipesFit pairs = (length pairs ≤ 60) × AreDifferent (names_of pairs)
 
 -- sessions ask alone at the pairs behind so many names, and at no other
 abbrev pub AskBehind : ℕ → List PipePair → Type 0
@@ -51,8 +51,8 @@ AreMisfit changing asking LonePipe = (length changing % 2 ≡ 1) ⊎ (length ask
 AreMisfit changing asking why = AreUnfit (changing ++ asking) why
 
 -- the name of the pipe of this number, counted from 0 through the pairs, or that of the store
-abbrev pub named : List ℕ → List PipePair → ℕ → List ℕ
-named store pairs which = if nat_lt which 3 then store else unwrap_or (slice_get (names_of pairs) (which - 3)) store
+abbrev pub pipe_named : List ℕ → List PipePair → ℕ → List ℕ
+pipe_named store pairs which = if nat_lt which 3 then store else unwrap_or (slice_get (names_of pairs) (which - 3)) store
 
 -- each of the first so many names was told to be one of a pipe
 abbrev pub AreTold : (List ℕ → Bool → Type 0) → List (List ℕ) → ℕ → Type 0

@@ -16,7 +16,7 @@ use Rattle.words.specs.declared.words.Usage.{Usage}
 use Rattle.words.specs.declared.pipes.PipePair.{PipePair}
 use Rattle.words.specs.declared.pipes.Misfit.{Misfit}
 use Rattle.words.specs.declared.pipes.Misfit.TheVariants.{MissingWord}
-use Rattle.words.specs.Pipes.{AreFit, AreMisfit, ArePairs}
+use Rattle.words.specs.Pipes.{ArePipesFit, AreMisfit, ArePairs}
 
 -- a width of a search's buckets
 abbrev pub IsWidth : ℕ → Type 0
@@ -42,11 +42,11 @@ searched_width (Apply store commands delta) = None
 searched_width job = delta_of job
 
 -- the pages of the store's journal, where it makes a store and they are given
-abbrev pub journal_of : Job → Option ℕ
-journal_of (Rehearse network script journal_pages room delta) = Some journal_pages
-journal_of (Create store network landmarks journal_pages room) = Some journal_pages
-journal_of (Copy store file room journal_pages) = journal_pages
-journal_of job = None
+abbrev pub journal_pages_of : Job → Option ℕ
+journal_pages_of (Rehearse network script journal_pages room delta) = Some journal_pages
+journal_pages_of (Create store network landmarks journal_pages room) = Some journal_pages
+journal_pages_of (Copy store file room journal_pages) = journal_pages
+journal_pages_of job = None
 
 -- the row workers of its desk, where it has one
 abbrev pub workers_of : Job → Option ℕ
@@ -68,7 +68,7 @@ IsWorkers workers = (1 ≤ workers) × (workers ≤ 64)
 
 -- the numbers that it gives are within their ranges, and its pairs of pipes may be served
 abbrev pub HasFitParts : Job → Type 0
-HasFitParts job = ForSome (delta_of job) IsWidth × ForSome (journal_of job) IsJournal × ForSome (workers_of job) IsWorkers × AreFit (pipes_of job)
+HasFitParts job = ForSome (delta_of job) IsWidth × ForSome (journal_pages_of job) IsJournal × ForSome (workers_of job) IsWorkers × ArePipesFit (pipes_of job)
 
 -- the subcommand that asks for a job, if it needs one
 abbrev pub subcommand_of : Job → Option (List ℕ)
@@ -95,9 +95,9 @@ abbrev pub IsWordOf : List ℕ → ℕ → Type 0
 IsWordOf word number = IsNumeral 10 (without_leading_plus word) × (digits_value 10 (without_leading_plus word) ≡ number)
 
 -- the fit number that the word of this name gives; none where there is no word, or none of a fit number
-abbrev pub Gives : Found → List ℕ → (ℕ → Type 0) → Option ℕ → Type 0
-Gives found name IsFit None = (word : List ℕ) (number : ℕ) → one_text found name ≡ Some word → IsWordOf word number → ¬ IsFit number
-Gives found name IsFit (Some number) = IsFit number × ((word : List ℕ) × (one_text found name ≡ Some word) × IsWordOf word number)
+abbrev pub GivesNumber : Found → List ℕ → (ℕ → Type 0) → Option ℕ → Type 0
+GivesNumber found name IsFit None = (word : List ℕ) (number : ℕ) → one_text found name ≡ Some word → IsWordOf word number → ¬ IsFit number
+GivesNumber found name IsFit (Some number) = IsFit number × ((word : List ℕ) × (one_text found name ≡ Some word) × IsWordOf word number)
 
 -- a number of 64 bits
 abbrev pub IsLong : ℕ → Type 0
@@ -109,12 +109,12 @@ IsUpTo most number = (1 ≤ number) × (number ≤ most)
 
 -- the fit number that the word of this name gives; another where it gives none
 abbrev pub GivesOr : Found → List ℕ → (ℕ → Type 0) → ℕ → ℕ → Type 0
-GivesOr found name IsFit other number = Gives found name IsFit (Some number) ⊎ ((number ≡ other) × Gives found name IsFit None)
+GivesOr found name IsFit other number = GivesNumber found name IsFit (Some number) ⊎ ((number ≡ other) × GivesNumber found name IsFit None)
 
 -- one of these texts is missing, or of these numbers of 64 bits
 abbrev pub Lacks : Found → List (List ℕ) → List (List ℕ) → Type 0
 Lacks found [] [] = ⊥
-Lacks found [] (number ∷ numbers) = Gives found number IsLong None ⊎ Lacks found [] numbers
+Lacks found [] (number ∷ numbers) = GivesNumber found number IsLong None ⊎ Lacks found [] numbers
 Lacks found (text ∷ texts) numbers = (first_value found text ≡ None) ⊎ Lacks found texts numbers
 
 -- the names of the texts that give pairs
@@ -150,52 +150,52 @@ all_values found name = unwrap_or (option_map raw_values (matched_of found name)
 
 -- the numbers of arcs to be shown: one an arc's, two those of the nodes from which and to which arcs lead; or the first is missing
 abbrev pub GivesArcs : Found → Option ArcNumbers → Type 0
-GivesArcs found None = Gives found (codes "K") IsLong None
-GivesArcs found (Some (Arc number)) = Gives found (codes "K") IsLong (Some number) × Gives found (codes "H") IsLong None
-GivesArcs found (Some (Between tail head)) = Gives found (codes "K") IsLong (Some tail) × Gives found (codes "H") IsLong (Some head)
+GivesArcs found None = GivesNumber found (codes "K") IsLong None
+GivesArcs found (Some (Arc number)) = GivesNumber found (codes "K") IsLong (Some number) × GivesNumber found (codes "H") IsLong None
+GivesArcs found (Some (Between tail head)) = GivesNumber found (codes "K") IsLong (Some tail) × GivesNumber found (codes "H") IsLong (Some head)
 
 -- the words give the parts of this job
 abbrev pub GivesParts : Found → Job → Type 0
-GivesParts found (Joint delta) = Gives found (codes "delta") IsWidth delta
+GivesParts found (Joint delta) = GivesNumber found (codes "delta") IsWidth delta
 GivesParts found (Once network source target delta) =
-    (first_value found (codes "GR") ≡ Some network.now) × Gives found (codes "S") IsLong (Some source)
-    × Gives found (codes "T") IsLong (Some target) × Gives found (codes "delta") IsWidth delta
+    (first_value found (codes "GR") ≡ Some network.now) × GivesNumber found (codes "S") IsLong (Some source)
+    × GivesNumber found (codes "T") IsLong (Some target) × GivesNumber found (codes "delta") IsWidth delta
 GivesParts found (Route network source target delta) =
-    (first_value found (codes "GR") ≡ Some network.now) × Gives found (codes "S") IsLong (Some source)
-    × Gives found (codes "T") IsLong (Some target) × Gives found (codes "delta") IsWidth delta
+    (first_value found (codes "GR") ≡ Some network.now) × GivesNumber found (codes "S") IsLong (Some source)
+    × GivesNumber found (codes "T") IsLong (Some target) × GivesNumber found (codes "delta") IsWidth delta
 GivesParts found (Batch network pairs delta) =
-    (first_value found (codes "GR") ≡ Some network.now) × (given_pairs found ≡ Some (pair_names pairs)) × Gives found (codes "delta") IsWidth delta
+    (first_value found (codes "GR") ≡ Some network.now) × (given_pairs found ≡ Some (pair_names pairs)) × GivesNumber found (codes "delta") IsWidth delta
 GivesParts found (Reach network source within delta) =
-    (first_value found (codes "GR") ≡ Some network.now) × Gives found (codes "S") IsLong (Some source)
-    × Gives found (codes "within") IsLong within × Gives found (codes "delta") IsWidth delta
+    (first_value found (codes "GR") ≡ Some network.now) × GivesNumber found (codes "S") IsLong (Some source)
+    × GivesNumber found (codes "within") IsLong within × GivesNumber found (codes "delta") IsWidth delta
 GivesParts found (Reached network target within delta) =
-    (first_value found (codes "GR") ≡ Some network.now) × Gives found (codes "T") IsLong (Some target)
-    × Gives found (codes "within") IsLong within × Gives found (codes "delta") IsWidth delta
+    (first_value found (codes "GR") ≡ Some network.now) × GivesNumber found (codes "T") IsLong (Some target)
+    × GivesNumber found (codes "within") IsLong within × GivesNumber found (codes "delta") IsWidth delta
 GivesParts found (Rehearse network script journal_pages room delta) =
     (first_value found (codes "GR") ≡ Some network.now) × (first_value found (codes "SCRIPT") ≡ Some script.now)
-    × GivesOr found (codes "journal") IsJournal 64 journal_pages × Gives found (codes "room") IsLong room × Gives found (codes "delta") IsWidth delta
+    × GivesOr found (codes "journal") IsJournal 64 journal_pages × GivesNumber found (codes "room") IsLong room × GivesNumber found (codes "delta") IsWidth delta
 GivesParts found (Create store network landmarks journal_pages room) =
     (first_value found (codes "STORE") ≡ Some store.now) × (first_value found (codes "GR") ≡ Some network.now)
-    × (first_value found (codes "SS") ≡ Some landmarks.now) × GivesOr found (codes "journal") IsJournal 64 journal_pages × Gives found (codes "room") IsLong room
+    × (first_value found (codes "SS") ≡ Some landmarks.now) × GivesOr found (codes "journal") IsJournal 64 journal_pages × GivesNumber found (codes "room") IsLong room
 GivesParts found (Apply store commands delta) =
     (first_value found (codes "STORE") ≡ Some store.now) × (first_value found (codes "COMMANDS") ≡ Some commands.now)
-    × Gives found (codes "delta") IsWidth delta
+    × GivesNumber found (codes "delta") IsWidth delta
 GivesParts found (Ask store pairs routes delta) =
     (first_value found (codes "STORE") ≡ Some store.now) × (given_pairs found ≡ Some (pair_names pairs))
-    × GivesFlag found (codes "routes") routes × Gives found (codes "delta") IsWidth delta
+    × GivesFlag found (codes "routes") routes × GivesNumber found (codes "delta") IsWidth delta
 GivesParts found (Check store) = first_value found (codes "STORE") ≡ Some store.now
 GivesParts found (Serve store pipes copies delta workers patience) =
-    (first_value found (codes "STORE") ≡ Some store.now) × ArePairs (all_values found (codes "PIPES")) (all_values found (codes "asking")) pipes.items × AreFit pipes.items
-    × (option_map (λ folder. folder.now) copies ≡ first_value found (codes "copies")) × Gives found (codes "delta") IsWidth delta
+    (first_value found (codes "STORE") ≡ Some store.now) × ArePairs (all_values found (codes "PIPES")) (all_values found (codes "asking")) pipes.items × ArePipesFit pipes.items
+    × (option_map (λ folder. folder.now) copies ≡ first_value found (codes "copies")) × GivesNumber found (codes "delta") IsWidth delta
     × GivesOr found (codes "workers") IsWorkers 4 workers × GivesOr found (codes "patience") IsPatience 30 patience
 GivesParts found (Migrate old new room) =
-    (first_value found (codes "OLD") ≡ Some old.now) × (first_value found (codes "NEW") ≡ Some new.now) × Gives found (codes "room") IsLong room
+    (first_value found (codes "OLD") ≡ Some old.now) × (first_value found (codes "NEW") ≡ Some new.now) × GivesNumber found (codes "room") IsLong room
 GivesParts found (Upgrade store old network new room) =
     (first_value found (codes "STORE") ≡ Some store.now) × (first_value found (codes "OLD") ≡ Some old.now) × (first_value found (codes "GR") ≡ Some network.now)
-    × (first_value found (codes "NEW") ≡ Some new.now) × Gives found (codes "room") IsLong room
+    × (first_value found (codes "NEW") ≡ Some new.now) × GivesNumber found (codes "room") IsLong room
 GivesParts found (Copy store file room journal_pages) =
     (first_value found (codes "STORE") ≡ Some store.now) × (first_value found (codes "FILE") ≡ Some file.now)
-    × Gives found (codes "room") IsLong room × Gives found (codes "journal") IsJournal journal_pages
+    × GivesNumber found (codes "room") IsLong room × GivesNumber found (codes "journal") IsJournal journal_pages
 GivesParts found (Show store arcs) = (first_value found (codes "STORE") ≡ Some store.now) × GivesArcs found (Some arcs)
 GivesParts found (Export store folder) = (first_value found (codes "STORE") ≡ Some store.now) × (first_value found (codes "FOLDER") ≡ Some folder.now)
 

@@ -347,7 +347,7 @@ enum Taken {
 
 /// A word that names a job.
 #[derive(Clone, Copy)]
-enum Word {
+enum JobWord {
     Once,
     Route,
     Batch,
@@ -367,27 +367,27 @@ enum Word {
 }
 
 /// The words that name a job, in the order of the program's help.
-const WORDS: [Word; 16] = [
-    Word::Once,
-    Word::Route,
-    Word::Batch,
-    Word::Reach,
-    Word::Reached,
-    Word::Rehearse,
-    Word::Create,
-    Word::Apply,
-    Word::Ask,
-    Word::Check,
-    Word::Serve,
-    Word::Migrate,
-    Word::Upgrade,
-    Word::Copy,
-    Word::Show,
-    Word::Export,
+const WORDS: [JobWord; 16] = [
+    JobWord::Once,
+    JobWord::Route,
+    JobWord::Batch,
+    JobWord::Reach,
+    JobWord::Reached,
+    JobWord::Rehearse,
+    JobWord::Create,
+    JobWord::Apply,
+    JobWord::Ask,
+    JobWord::Check,
+    JobWord::Serve,
+    JobWord::Migrate,
+    JobWord::Upgrade,
+    JobWord::Copy,
+    JobWord::Show,
+    JobWord::Export,
 ];
 
 /// What the help of a word, or of the program, tells, and what it takes, in the order of that help.
-struct Entry {
+struct HelpEntry {
     name: &'static str,
     about: &'static str,
     long_about: &'static str,
@@ -395,7 +395,7 @@ struct Entry {
     takes: &'static [Taken],
 }
 
-const PROGRAM_ENTRY: Entry = Entry {
+const PROGRAM_ENTRY: HelpEntry = HelpEntry {
     name: "roadmark",
     about: "Exact shortest-path lengths in a road network",
     long_about: ABOUT,
@@ -403,7 +403,7 @@ const PROGRAM_ENTRY: Entry = Entry {
     takes: &[Taken::Delta(DELTA_HELP)],
 };
 
-const ONCE_ENTRY: Entry = Entry {
+const ONCE_ENTRY: HelpEntry = HelpEntry {
     name: ONCE,
     about: "Prints the length of a shortest walk between two nodes",
     long_about: ABOUT_ONCE,
@@ -417,7 +417,7 @@ const ONCE_ENTRY: Entry = Entry {
     ],
 };
 
-const ROUTE_ENTRY: Entry = Entry {
+const ROUTE_ENTRY: HelpEntry = HelpEntry {
     name: ROUTE,
     about: "Prints the arcs of a shortest walk between two nodes",
     long_about: ABOUT_ROUTE,
@@ -431,7 +431,7 @@ const ROUTE_ENTRY: Entry = Entry {
     ],
 };
 
-const BATCH_ENTRY: Entry = Entry {
+const BATCH_ENTRY: HelpEntry = HelpEntry {
     name: BATCH,
     about: "Prints the length of a shortest walk for each pair of a file, or of a table",
     long_about: ABOUT_BATCH,
@@ -446,7 +446,7 @@ const BATCH_ENTRY: Entry = Entry {
     ],
 };
 
-const REACH_ENTRY: Entry = Entry {
+const REACH_ENTRY: HelpEntry = HelpEntry {
     name: REACH,
     about: "Prints the nodes to which walks from a node lead, and their distances",
     long_about: ABOUT_REACH,
@@ -460,7 +460,7 @@ const REACH_ENTRY: Entry = Entry {
     ],
 };
 
-const REACHED_ENTRY: Entry = Entry {
+const REACHED_ENTRY: HelpEntry = HelpEntry {
     name: REACHED,
     about: "Prints the nodes from which walks lead to a node, and their distances",
     long_about: ABOUT_REACHED,
@@ -474,7 +474,7 @@ const REACHED_ENTRY: Entry = Entry {
     ],
 };
 
-const REHEARSE_ENTRY: Entry = Entry {
+const REHEARSE_ENTRY: HelpEntry = HelpEntry {
     name: REHEARSE,
     about: "Runs a script on a store in memory",
     long_about: ABOUT_REHEARSE,
@@ -489,7 +489,7 @@ const REHEARSE_ENTRY: Entry = Entry {
     ],
 };
 
-const CREATE_ENTRY: Entry = Entry {
+const CREATE_ENTRY: HelpEntry = HelpEntry {
     name: CREATE,
     about: "Makes a store for a network and its landmarks",
     long_about: ABOUT_CREATE,
@@ -507,7 +507,7 @@ const CREATE_ENTRY: Entry = Entry {
     ],
 };
 
-const APPLY_ENTRY: Entry = Entry {
+const APPLY_ENTRY: HelpEntry = HelpEntry {
     name: APPLY,
     about: "Carries out the commands of a file on a store",
     long_about: ABOUT_APPLY,
@@ -520,7 +520,7 @@ const APPLY_ENTRY: Entry = Entry {
     ],
 };
 
-const ASK_ENTRY: Entry = Entry {
+const ASK_ENTRY: HelpEntry = HelpEntry {
     name: ASK,
     about: "Prints the length of a shortest walk for each pair, in a store's network",
     long_about: ABOUT_ASK,
@@ -536,7 +536,7 @@ const ASK_ENTRY: Entry = Entry {
     ],
 };
 
-const CHECK_ENTRY: Entry = Entry {
+const CHECK_ENTRY: HelpEntry = HelpEntry {
     name: CHECK,
     about: "Checks the file of a store, and prints its version, slot and journal",
     long_about: ABOUT_CHECK,
@@ -544,7 +544,7 @@ const CHECK_ENTRY: Entry = Entry {
     takes: &[Taken::Word(STORE, STORE_HELP), Taken::Verbose],
 };
 
-const SERVE_ENTRY: Entry = Entry {
+const SERVE_ENTRY: HelpEntry = HelpEntry {
     name: SERVE,
     about: "Serves a store on standard input and output, and at pairs of named pipes",
     long_about: ABOUT_SERVE,
@@ -561,7 +561,7 @@ const SERVE_ENTRY: Entry = Entry {
     ],
 };
 
-const MIGRATE_ENTRY: Entry = Entry {
+const MIGRATE_ENTRY: HelpEntry = HelpEntry {
     name: MIGRATE,
     about: "Makes a store from one that an earlier program made",
     long_about: ABOUT_MIGRATE,
@@ -574,7 +574,7 @@ const MIGRATE_ENTRY: Entry = Entry {
     ],
 };
 
-const UPGRADE_ENTRY: Entry = Entry {
+const UPGRADE_ENTRY: HelpEntry = HelpEntry {
     name: UPGRADE,
     about: "Makes a store from another, for a new map of the roads",
     long_about: ABOUT_UPGRADE,
@@ -595,7 +595,7 @@ const UPGRADE_ENTRY: Entry = Entry {
     ],
 };
 
-const COPY_ENTRY: Entry = Entry {
+const COPY_ENTRY: HelpEntry = HelpEntry {
     name: COPY,
     about: "Makes a copy of a store, with more room or another journal if asked for",
     long_about: ABOUT_COPY,
@@ -609,7 +609,7 @@ const COPY_ENTRY: Entry = Entry {
     ],
 };
 
-const SHOW_ENTRY: Entry = Entry {
+const SHOW_ENTRY: HelpEntry = HelpEntry {
     name: SHOW,
     about: "Prints an arc, or all arcs from one node to another, in a store's network",
     long_about: ABOUT_SHOW,
@@ -622,7 +622,7 @@ const SHOW_ENTRY: Entry = Entry {
     ],
 };
 
-const EXPORT_ENTRY: Entry = Entry {
+const EXPORT_ENTRY: HelpEntry = HelpEntry {
     name: EXPORT,
     about: "Writes a store's network as three texts",
     long_about: ABOUT_EXPORT,
@@ -638,24 +638,24 @@ const EXPORT_ENTRY: Entry = Entry {
 };
 
 /// The entry of a word.
-fn entry_of(word: Word) -> &'static Entry {
+fn entry_of(word: JobWord) -> &'static HelpEntry {
     match word {
-        Word::Once => &ONCE_ENTRY,
-        Word::Route => &ROUTE_ENTRY,
-        Word::Batch => &BATCH_ENTRY,
-        Word::Reach => &REACH_ENTRY,
-        Word::Reached => &REACHED_ENTRY,
-        Word::Rehearse => &REHEARSE_ENTRY,
-        Word::Create => &CREATE_ENTRY,
-        Word::Apply => &APPLY_ENTRY,
-        Word::Ask => &ASK_ENTRY,
-        Word::Check => &CHECK_ENTRY,
-        Word::Serve => &SERVE_ENTRY,
-        Word::Migrate => &MIGRATE_ENTRY,
-        Word::Upgrade => &UPGRADE_ENTRY,
-        Word::Copy => &COPY_ENTRY,
-        Word::Show => &SHOW_ENTRY,
-        Word::Export => &EXPORT_ENTRY,
+        JobWord::Once => &ONCE_ENTRY,
+        JobWord::Route => &ROUTE_ENTRY,
+        JobWord::Batch => &BATCH_ENTRY,
+        JobWord::Reach => &REACH_ENTRY,
+        JobWord::Reached => &REACHED_ENTRY,
+        JobWord::Rehearse => &REHEARSE_ENTRY,
+        JobWord::Create => &CREATE_ENTRY,
+        JobWord::Apply => &APPLY_ENTRY,
+        JobWord::Ask => &ASK_ENTRY,
+        JobWord::Check => &CHECK_ENTRY,
+        JobWord::Serve => &SERVE_ENTRY,
+        JobWord::Migrate => &MIGRATE_ENTRY,
+        JobWord::Upgrade => &UPGRADE_ENTRY,
+        JobWord::Copy => &COPY_ENTRY,
+        JobWord::Show => &SHOW_ENTRY,
+        JobWord::Export => &EXPORT_ENTRY,
     }
 }
 
@@ -741,7 +741,7 @@ fn argument_of<'w>(alloc: Global, taken: Taken) -> Result<Arg<'w>, AllocError> {
 }
 
 /// The command of an entry.
-fn command_of<'w>(alloc: Global, entry: &Entry) -> Result<Command<'w>, AllocError> {
+fn command_of<'w>(alloc: Global, entry: &HelpEntry) -> Result<Command<'w>, AllocError> {
     let mut command = Command::new(alloc, entry.name)
         .about(entry.about)
         .long_about(entry.long_about)

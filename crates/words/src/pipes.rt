@@ -1,6 +1,6 @@
 //! The pairs of named pipes that words name.
 ghost use Rattle.std.specs.Prelude.{◌≡◌, ◌%◌, ◌<◌, ◌++◌, length, slice_get, MatchBool, MatchOption, IfOk, IfErr, option_map};
-ghost use Rattle.words.specs.Pipes.{names_of, texts, StandsBefore, AreDifferent, StandsTwice, AreFit, AreMisfit, ArePairs, AreUnfit, AskBehind};
+ghost use Rattle.words.specs.Pipes.{names_of, texts, StandsBefore, AreDifferent, StandsTwice, ArePipesFit, AreMisfit, ArePairs, AreUnfit, AskBehind};
 ghost use Rattle.words.specs.declared.pipes.Misfit.TheVariants.{OutOfMemory as out_of_memory};
 
 use std::alloc::{AllocError, AllocFailed, Global};
@@ -113,7 +113,7 @@ fn paired<'w>(
     requires { length names.now % 2 ≡ 0 }
     ensures pairs { IfOk result (λ pairs. names_of pairs.items ≡ texts names.now) }
     ensures asking { IfOk result (λ pairs. AskBehind changing pairs.items) }
-    ensures fit { IfOk result (λ pairs. AreFit pairs.items) }
+    ensures fit { IfOk result (λ pairs. ArePipesFit pairs.items) }
     ensures refused { IfErr result (AreUnfit (texts names.now)) }
 {
     if names.len() > MOST_PIPES {
@@ -150,7 +150,7 @@ pub fn pairs_of<'w>(
     asking: &[&'w str],
 ) -> Result<Vec<PipePair<'w>>, Misfit<'w>>
     ensures pairs { IfOk result (λ pairs. ArePairs (texts changing.now) (texts asking.now) pairs.items) }
-    ensures fit { IfOk result (λ pairs. AreFit pairs.items) }
+    ensures fit { IfOk result (λ pairs. ArePipesFit pairs.items) }
     ensures refused { IfErr result (AreMisfit (texts changing.now) (texts asking.now)) }
 {
     if changing.len() % 2 == 1 || asking.len() % 2 == 1 {

@@ -4,8 +4,8 @@ ghost use Rattle.std.specs.Bool.{Decides};
 ghost use Rattle.std.specs.Option.{ForSome};
 ghost use lib.Chars.{codes};
 ghost use Rattle.clap.specs.Words.{found_of, kind_of, subcommand_name_of};
-ghost use Rattle.words.specs.Pipes.{AreFit, AreMisfit, ArePairs};
-ghost use Rattle.words.specs.Words.{delta_of, journal_of, workers_of, pipes_of, pair_names, names_given, given_pairs, all_values, subcommand_of, ComesTwice, HasFitParts, Gives, GivesOr, GivesArcs, GivesParts, GivesJob, GivesNoServer, GivesVerbose, Lacks, IsUpTo, IsWidth, IsJournal, IsWorkers, IsLong, IsUsage, IsInput, NamesInputTwice};
+ghost use Rattle.words.specs.Pipes.{ArePipesFit, AreMisfit, ArePairs};
+ghost use Rattle.words.specs.Words.{delta_of, journal_pages_of, workers_of, pipes_of, pair_names, names_given, given_pairs, all_values, subcommand_of, ComesTwice, HasFitParts, GivesNumber, GivesOr, GivesArcs, GivesParts, GivesJob, GivesNoServer, GivesVerbose, Lacks, IsUpTo, IsWidth, IsJournal, IsWorkers, IsLong, IsUsage, IsInput, NamesInputTwice};
 
 use crate::commands::{
     APPLY, ASK, ASKING, BATCH, CHECK, COMMANDS, COPIES, COPY, CREATE, DELTA, EXPORT, FILE, FOLDER,
@@ -251,14 +251,14 @@ fn usage_for(alloc: Global, misfit: Misfit<'_>) -> Usage
 
 /// The number that the word of this name gives, of 64 bits.
 fn number_in(matches: &ArgMatches<'_>, name: &str) -> Option<u64>
-    ensures { Gives (found_of matches.now) name.now IsLong result }
+    ensures { GivesNumber (found_of matches.now) name.now IsLong result }
 {
     matches.get_one::<u64>(name)
 }
 
 /// The number that the word of this name gives, if any; from 1 to the most, as the option's parser has it.
 fn number_up_to(matches: &ArgMatches<'_>, name: &str, most: u32) -> Option<u32>
-    ensures { Gives (found_of matches.now) name.now (IsUpTo most) result }
+    ensures { GivesNumber (found_of matches.now) name.now (IsUpTo most) result }
 {
     let number = matches.get_one::<u32>(name)?;
     if 1 <= number && number <= most {
@@ -280,7 +280,7 @@ fn number_or(matches: &ArgMatches<'_>, name: &str, most: u32, other: u32) -> u32
 
 /// The width that these words give, if any.
 fn width_in(matches: &ArgMatches<'_>) -> Option<u32>
-    ensures { Gives (found_of matches.now) (codes "delta") IsWidth result }
+    ensures { GivesNumber (found_of matches.now) (codes "delta") IsWidth result }
 {
     number_up_to(matches, DELTA, MOST_WIDTH)
 }
@@ -475,7 +475,7 @@ fn check_in<'w>(matches: &ArgMatches<'w>) -> Option<Job<'w>>
 /// The pairs that the names of pipes make; none where there are no names.
 fn pipes_in<'w>(alloc: Global, matches: &ArgMatches<'w>) -> Result<Vec<PipePair<'w>>, Misfit<'w>>
     ensures pairs { IfOk result (λ pairs. ArePairs (all_values (found_of matches.now) (codes "PIPES")) (all_values (found_of matches.now) (codes "asking")) pairs.items) }
-    ensures fit { IfOk result (λ pairs. AreFit pairs.items) }
+    ensures fit { IfOk result (λ pairs. ArePipesFit pairs.items) }
     ensures refused { IfErr result (AreMisfit (all_values (found_of matches.now) (codes "PIPES")) (all_values (found_of matches.now) (codes "asking"))) }
 {
     match (matches.get_strs(PIPES), matches.get_strs(ASKING)) {
@@ -709,9 +709,9 @@ fn job_in<'w>(alloc: Global, matches: &ArgMatches<'w>) -> Result<Job<'w>, Misfit
 /// Reads the program's words, the first of which is its own name.
 pub fn read_words<'w, S: AsStr>(alloc: Global, words: &'w [S]) -> Result<Asked<'w>, Usage>
     ensures width { IfOk result (λ asked. ForSome (delta_of asked.job) IsWidth) }
-    ensures journal { IfOk result (λ asked. ForSome (journal_of asked.job) IsJournal) }
+    ensures journal { IfOk result (λ asked. ForSome (journal_pages_of asked.job) IsJournal) }
     ensures workers { IfOk result (λ asked. ForSome (workers_of asked.job) IsWorkers) }
-    ensures pipes { IfOk result (λ asked. AreFit (pipes_of asked.job)) }
+    ensures pipes { IfOk result (λ asked. ArePipesFit (pipes_of asked.job)) }
     ensures once { IfOk result (λ asked. ¬ NamesInputTwice asked.job) }
     // Of the joint form nothing is told.
     ensures verbose { IfOk result (λ asked. subcommand_of asked.job ≡ None → asked.verbose ≡ false) }

@@ -21,7 +21,7 @@ use snapshot::Snapshot;
 use std::alloc::Global;
 
 /// A question about the nodes around a source.
-pub(crate) trait Asked {
+pub(crate) trait Question {
     /// It can be asked of values that have so many places.
     ghost suits: { Self → ℕ → Type 0 };
 
@@ -60,7 +60,7 @@ fn last_of(bucket: u64, delta: u64) -> u64
 impl<F: Frontier> Search<F> {
     /// Settles bucket after bucket until there are enough values for an answer, or no node is queued any more. Returns up to which length the values are
     /// then final: to the end of the bucket that was settled last, or all of them if no node is queued.
-    fn settle_for<A: Asked, T: Team>(
+    fn settle_for<A: Question, T: Team>(
         &mut self,
         alloc: Global,
         snapshot: &Snapshot,
@@ -91,7 +91,7 @@ impl<F: Frontier> Search<F> {
 /// The search for an answer around `source` with the given team and a frontier without values and queued nodes: up to which length the values are final,
 /// or all of them if there is no end. Also the frontier as the search leaves it.
 #[inline(always)]
-fn settled_by<F: Frontier + Drop, A: Asked, T: Team>(
+fn settled_by<F: Frontier + Drop, A: Question, T: Team>(
     alloc: Global,
     snapshot: &Snapshot,
     source: u32,
@@ -114,7 +114,7 @@ fn settled_by<F: Frontier + Drop, A: Asked, T: Team>(
 }
 
 /// The search for an answer around `source` with empty values, over a ring of so many lists, which the workspace gets. Also the values.
-fn values_over<A: Asked, T: Team>(
+fn values_over<A: Question, T: Team>(
     alloc: Global,
     snapshot: &Snapshot,
     source: u32,
@@ -143,7 +143,7 @@ fn values_over<A: Asked, T: Team>(
 
 /// The search for an answer around `source`, whatever the workspace holds: up to which length the values are final, or all of them if there is no end,
 /// and the values. The search uses the workspace's values and its queue, and leaves it a queue.
-fn values_for<A: Asked, T: Team>(
+fn values_for<A: Question, T: Team>(
     alloc: Global,
     snapshot: &Snapshot,
     source: u32,
@@ -172,7 +172,7 @@ fn values_for<A: Asked, T: Team>(
 }
 
 /// The answer around `source`, whatever the workspace holds: the search uses its values and its queue.
-pub(crate) fn answer_in<A: Asked, T: Team>(
+pub(crate) fn answer_in<A: Question, T: Team>(
     alloc: Global,
     snapshot: &Snapshot,
     source: u32,

@@ -7,9 +7,9 @@ ghost use Rattle.roadnet.specs.Net.{Net};
 ghost use Rattle.snapshot.specs.Groups.{Groups, IsGrouped, IsSnapshotOf};
 ghost use Rattle.snapshot.specs.declared.legs.Part.{Part};
 ghost use Rattle.deltastep.specs.Search.{IsBetweenBuckets, most_lists};
-ghost use Rattle.deltastep.specs.Guided.{ConsistentIsLowerBound, GoesOn, IsBest, IsDone, IsGuided, IsKey, IsLowerBound, KeyStaysBelow, EndsReached};
+ghost use Rattle.deltastep.specs.Guided.{ConsistentIsLowerBound, SearchGoesOn, IsBest, IsDone, IsGuided, IsKey, IsLowerBound, KeyStaysBelow, EndsReached};
 ghost use Rattle.deltastep.specs.Stepping.{LowersByKey};
-ghost use Rattle.deltastep.specs.Reach.{IsDistance};
+ghost use Rattle.deltastep.specs.Reach.{IsLeastLength};
 
 use crate::rows::distances::RowError;
 use crate::searches::search::top;
@@ -195,7 +195,7 @@ impl<Q: BucketQueue> KeyedSearch<Q> {
         requires key { IsKey snapshot.now (G.target guide.now) self.old.tentative node start }
         requires window { start ≤ end }
         requires fits { (v : ℕ) → start ≤ v → v ≤ end → Q.accepts self.old.buckets v }
-        ensures goes_on { OnOk result (GoesOn snapshot.now (G.target guide.now) start self.old.tentative (Q.entries self.old.buckets) self.new.tentative (Q.entries self.new.buckets)) }
+        ensures goes_on { OnOk result (SearchGoesOn snapshot.now (G.target guide.now) start self.old.tentative (Q.entries self.old.buckets) self.new.tentative (Q.entries self.new.buckets)) }
         ensures done { OnOk result (IsDone snapshot.now part self.new.tentative (Q.entries self.new.buckets) node) }
         ensures accepts { OnOk result ((v : ℕ) → Q.accepts self.old.buckets v → Q.accepts self.new.buckets v) }
         ensures width { OnOk result (Q.width self.new.buckets ≡ Q.width self.old.buckets) }
@@ -225,7 +225,7 @@ impl<Q: BucketQueue> KeyedSearch<Q> {
         requires key { IsKey snapshot.now (G.target guide.now) self.old.tentative node start }
         requires window { start ≤ end }
         requires fits { (v : ℕ) → start ≤ v → v ≤ end → Q.accepts self.old.buckets v }
-        ensures goes_on { OnOk result (GoesOn snapshot.now (G.target guide.now) start self.old.tentative (Q.entries self.old.buckets) self.new.tentative (Q.entries self.new.buckets)) }
+        ensures goes_on { OnOk result (SearchGoesOn snapshot.now (G.target guide.now) start self.old.tentative (Q.entries self.old.buckets) self.new.tentative (Q.entries self.new.buckets)) }
         ensures done { OnOk result ((part : Part) → IsDone snapshot.now part self.new.tentative (Q.entries self.new.buckets) node) }
         ensures accepts { OnOk result ((v : ℕ) → Q.accepts self.old.buckets v → Q.accepts self.new.buckets v) }
         ensures width { OnOk result (Q.width self.new.buckets ≡ Q.width self.old.buckets) }
@@ -251,7 +251,7 @@ impl<Q: BucketQueue> KeyedSearch<Q> {
         requires keys { (u : ℕ) → Contains nodes.now u → IsKey snapshot.now (G.target guide.now) self.old.tentative u start }
         requires window { start ≤ end }
         requires fits { (v : ℕ) → start ≤ v → v ≤ end → Q.accepts self.old.buckets v }
-        ensures goes_on { OnOk result (GoesOn snapshot.now (G.target guide.now) start self.old.tentative (Q.entries self.old.buckets) self.new.tentative (Q.entries self.new.buckets)) }
+        ensures goes_on { OnOk result (SearchGoesOn snapshot.now (G.target guide.now) start self.old.tentative (Q.entries self.old.buckets) self.new.tentative (Q.entries self.new.buckets)) }
         ensures done { OnOk result ((part : Part) (u : ℕ) → Contains nodes.now u → IsDone snapshot.now part self.new.tentative (Q.entries self.new.buckets) u) }
         ensures width { OnOk result (Q.width self.new.buckets ≡ Q.width self.old.buckets) }
         ensures span { OnOk result (Q.span self.new.buckets ≡ Q.span self.old.buckets) }
@@ -330,7 +330,7 @@ fn guided_by<Q: BucketQueue + Drop, G: Guide>(
     requires wide { 1 ≤ Q.width buckets }
     requires window { 1 ≤ Q.span buckets }
     ensures places { IfOk result (λ over. length over.0 ≡ snapshot.now.nodes + 1) }
-    ensures distance { IfOk result (λ over. (net : Net) → IsSnapshotOf net snapshot.now → IsDistance net source target (value_at over.0 target)) }
+    ensures distance { IfOk result (λ over. (net : Net) → IsSnapshotOf net snapshot.now → IsLeastLength net source target (value_at over.0 target)) }
 {
     let mut search = KeyedSearch::begin_guided(snapshot, source, values, buckets)?;
     search.settle_guided(alloc, snapshot, target, guide)?;
@@ -368,7 +368,7 @@ pub fn values_guided_in<G: Guide>(
     requires leads { G.target guide.now ≡ target }
     requires knows { G.knows guide.now snapshot.now }
     ensures places { IfOk result (λ values. length values ≡ snapshot.now.nodes + 1) }
-    ensures distance { IfOk result (λ values. (net : Net) → IsSnapshotOf net snapshot.now → IsDistance net source target (value_at values target)) }
+    ensures distance { IfOk result (λ values. (net : Net) → IsSnapshotOf net snapshot.now → IsLeastLength net source target (value_at values target)) }
 {
     let values = workspace.take_values(alloc, snapshot.nodes())?;
     let narrow = snapshot.narrowed()?;

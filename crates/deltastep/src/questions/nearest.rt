@@ -5,9 +5,9 @@ ghost use Rattle.std.specs.List.Sorted.{IsStrictlyIncreasing};
 ghost use Rattle.roadnet.specs.Net.{Net};
 ghost use Rattle.roadnet.specs.Walks.{RowOf};
 ghost use Rattle.snapshot.specs.Groups.{IsSnapshotOf};
-ghost use Rattle.deltastep.specs.Reach.{AreFinal, AreNearest, ArePlaces, AreEnough, AreAmong, has_within};
+ghost use Rattle.deltastep.specs.Reach.{AreFinal, AreNearest, AreNodesOfRow, AreEnough, AreNodesAmong, has_within};
 
-use crate::questions::asked::{Asked, answer_in};
+use crate::questions::asked::{Question, answer_in};
 use crate::rows::distances::{Distances, RowError};
 use crate::rows::known::{Known, NodeDistance, is_known, known_among, told};
 use crate::searches::workspace::Workspace;
@@ -17,7 +17,7 @@ use std::alloc::Global;
 
 /// How many of these nodes have values up to the end.
 fn count_known(values: &Tentative, among: &[u32], end: u64) -> usize
-    requires nodes { ArePlaces values.now among.now }
+    requires nodes { AreNodesOfRow values.now among.now }
     ensures { result ≡ count_by (has_within values.now (Some end)) among.now }
 {
     let mut count: usize = 0;
@@ -37,7 +37,7 @@ fn nearest_by<V: Known>(
     count: u32,
     end: Option<u64>,
 ) -> Result<Vec<NodeDistance>, RowError>
-    requires nodes { ArePlaces (V.values values.now) among.now }
+    requires nodes { AreNodesOfRow (V.values values.now) among.now }
     requires ascending { IsStrictlyIncreasing among.now }
     requires enough { IfSome end (AreEnough (V.values values.now) among.now count) }
     ensures { IfOk result (λ told. (net : Net) (source : ℕ) → AreFinal net source end (V.values values.now) → AreNearest net source among.now count told.items) }
@@ -56,8 +56,8 @@ struct Nearest<'a> {
     count: u32,
 }
 
-impl<'a> Asked for Nearest<'a> {
-    ghost suits = { λ asked places. AreAmong places asked.among.now };
+impl<'a> Question for Nearest<'a> {
+    ghost suits = { λ asked places. AreNodesAmong places asked.among.now };
 
     ghost suffices = { λ asked values end. AreEnough values asked.among.now asked.count end };
 
@@ -96,7 +96,7 @@ pub fn nearest_in<T: Team>(
     workspace: &mut Workspace,
 ) -> Result<Vec<NodeDistance>, RowError>
     requires source { (1 ≤ source) × (source ≤ snapshot.now.nodes) }
-    requires among { AreAmong (snapshot.now.nodes + 1) among.now }
+    requires among { AreNodesAmong (snapshot.now.nodes + 1) among.now }
     ensures nearest { IfOk result (λ told. (net : Net) → IsSnapshotOf net snapshot.now → AreNearest net source among.now count told.items) }
 {
     let asked = Nearest { among, count };
@@ -112,7 +112,7 @@ pub fn nearest_of_row(
     among: &[u32],
     count: u32,
 ) -> Result<Vec<NodeDistance>, RowError>
-    requires among { AreAmong (length row.now + 1) among.now }
+    requires among { AreNodesAmong (length row.now + 1) among.now }
     ensures nearest { IfOk result (λ told. (net : Net) (source : ℕ) → RowOf net source row.now → AreNearest net source among.now count told.items) }
 {
     nearest_by(alloc, row, among, count, None)

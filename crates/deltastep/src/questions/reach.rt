@@ -8,7 +8,7 @@ ghost use Rattle.snapshot.specs.Groups.{IsSnapshotOf};
 ghost use Rattle.std.specs.List.Sorted.{IsStrictlyIncreasing};
 ghost use Rattle.deltastep.specs.Reach.{AreAllWithin, IsReach, IsReachTo};
 
-use crate::questions::asked::{Asked, answer_in};
+use crate::questions::asked::{Question, answer_in};
 use crate::rows::distances::{Distances, RowError};
 use crate::rows::known::{Known, NodeDistance, all_known, known_among, told};
 use crate::searches::workspace::Workspace;
@@ -50,7 +50,7 @@ struct Within {
     limit: u64,
 }
 
-impl Asked for Within {
+impl Question for Within {
     ghost suits = { λ asked places. asked.nodes + 1 ≡ places };
 
     ghost suffices = { λ asked _ end. asked.limit ≤ end };

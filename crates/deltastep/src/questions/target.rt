@@ -6,7 +6,7 @@ ghost use Rattle.roadnet.specs.Net.{Net};
 ghost use Rattle.snapshot.specs.Groups.{IsSnapshotOf};
 ghost use Rattle.deltastep.specs.Search.{IsNarrowedOf, Suits, most_lists};
 ghost use Rattle.deltastep.specs.Stepping.{HasWidth, IsBetween, StaysBetween};
-ghost use Rattle.deltastep.specs.Reach.{IsBeyond, IsDistance, IsKnownTo};
+ghost use Rattle.deltastep.specs.Reach.{IsBeyond, IsLeastLength, IsKnownTo};
 
 use crate::rows::distances::RowError;
 use crate::searches::search::Search;
@@ -185,7 +185,7 @@ pub fn distance_to_in<T: Team>(
 ) -> Result<Option<u64>, RowError>
     requires source { (1 ≤ source) × (source ≤ snapshot.now.nodes) }
     requires target { (1 ≤ target) × (target ≤ snapshot.now.nodes) }
-    ensures distance { IfOk result (λ distance. (net : Net) → IsSnapshotOf net snapshot.now → IsDistance net source target distance) }
+    ensures distance { IfOk result (λ distance. (net : Net) → IsSnapshotOf net snapshot.now → IsLeastLength net source target distance) }
 {
     let values = values_to_in(alloc, snapshot, source, target, team, workspace)?;
     let distance = values.get(target);

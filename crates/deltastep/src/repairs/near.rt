@@ -9,7 +9,7 @@ ghost use Rattle.snapshot.specs.Groups.{IsSnapshotOf};
 ghost use Rattle.snapshot.specs.declared.legs.Part.{Part};
 ghost use Rattle.relax.specs.Values.{value_at};
 ghost use Rattle.deltastep.specs.Search.{IsSearch, top_of, IsBetweenFromReached};
-ghost use Rattle.deltastep.specs.Repair.{AreChanged, AreQueued, AreTails, AreTailsLooked, IsKeptOf, IsLooked};
+ghost use Rattle.deltastep.specs.Repair.{AreChanged, AreQueued, AreTails, AreTailsLooked, IsKeptOf, IsNodeLooked};
 
 use crate::repairs::repairing::queue_owing;
 use crate::rows::distances::{Distances, RowError};
@@ -30,7 +30,7 @@ fn queue_heads<Q: BucketQueue>(
     requires small { top_of snapshot.now ≤ 2 ^ 56 }
     ensures queued { OnOk result (AreQueued tentative.now (Q.entries buckets.old) → AreQueued tentative.now (Q.entries buckets.new)) }
     ensures keeps { OnOk result ((u : ℕ) → IsSome (map.get (Q.entries buckets.old) u) → IsSome (map.get (Q.entries buckets.new) u)) }
-    ensures looked { IfOk result (λ fit. OnTrue fit (All (λ leg. IsLooked snapshot.now tentative.now (Q.entries buckets.new) leg.head) legs.now)) }
+    ensures looked { IfOk result (λ fit. OnTrue fit (All (λ leg. IsNodeLooked snapshot.now tentative.now (Q.entries buckets.new) leg.head) legs.now)) }
     ensures width { OnOk result (Q.width buckets.new ≡ Q.width buckets.old) }
     ensures span { OnOk result (Q.span buckets.new ≡ Q.span buckets.old) }
 {
@@ -99,7 +99,7 @@ fn queue_changed<Q: BucketQueue>(
     requires small { top_of snapshot.now ≤ 2 ^ 56 }
     ensures queued { OnOk result (AreQueued tentative.now (Q.entries buckets.old) → AreQueued tentative.now (Q.entries buckets.new)) }
     ensures keeps { OnOk result ((u : ℕ) → IsSome (map.get (Q.entries buckets.old) u) → IsSome (map.get (Q.entries buckets.new) u)) }
-    ensures looked { IfOk result (λ fits. OnTrue fits (1 ≤ node → node ≤ snapshot.now.nodes → IsLooked snapshot.now tentative.now (Q.entries buckets.new) node)) }
+    ensures looked { IfOk result (λ fits. OnTrue fits (1 ≤ node → node ≤ snapshot.now.nodes → IsNodeLooked snapshot.now tentative.now (Q.entries buckets.new) node)) }
     ensures width { OnOk result (Q.width buckets.new ≡ Q.width buckets.old) }
     ensures span { OnOk result (Q.span buckets.new ≡ Q.span buckets.old) }
 {
@@ -119,7 +119,7 @@ fn queue_all_changed<Q: BucketQueue>(
     requires search { IsSearch snapshot.now tentative.now map.empty 0 }
     requires small { top_of snapshot.now ≤ 2 ^ 56 }
     ensures queued { OnOk result (AreQueued tentative.now (Q.entries buckets.old) → AreQueued tentative.now (Q.entries buckets.new)) }
-    ensures looked { IfOk result (λ fit. OnTrue fit (All (λ u. 1 ≤ u → u ≤ snapshot.now.nodes → IsLooked snapshot.now tentative.now (Q.entries buckets.new) u) changed.now)) }
+    ensures looked { IfOk result (λ fit. OnTrue fit (All (λ u. 1 ≤ u → u ≤ snapshot.now.nodes → IsNodeLooked snapshot.now tentative.now (Q.entries buckets.new) u) changed.now)) }
     ensures width { OnOk result (Q.width buckets.new ≡ Q.width buckets.old) }
     ensures span { OnOk result (Q.span buckets.new ≡ Q.span buckets.old) }
 {

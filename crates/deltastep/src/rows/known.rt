@@ -3,7 +3,7 @@
 ghost use Rattle.std.specs.Prelude.{◌≡◌, ◌+◌, ◌≤◌, ◌<◌, ℕ, List, [], ◌∷◌, ◌++◌, Option, None, Some, if◌then◌else◌, length, map, IfOk, OnOk};
 ghost use Rattle.std.specs.List.{filter};
 ghost use Rattle.relax.specs.Values.{value_at};
-ghost use Rattle.deltastep.specs.Reach.{AreAllWithin, ArePlaces, has_within, told_of};
+ghost use Rattle.deltastep.specs.Reach.{AreAllWithin, AreNodesOfRow, has_within, node_told_of};
 
 use crate::rows::distances::{Distances, RowError};
 use relax::Tentative;
@@ -85,7 +85,7 @@ pub(crate) fn known_among<V: Known>(
     nodes: &[u32],
     end: Option<u64>,
 ) -> Result<Vec<u32>, RowError>
-    requires nodes { ArePlaces (V.values values.now) nodes.now }
+    requires nodes { AreNodesOfRow (V.values values.now) nodes.now }
     ensures { IfOk result (λ known. known.items ≡ filter (has_within (V.values values.now) end) nodes.now) }
 {
     let mut known = Vec::new(alloc);
@@ -118,8 +118,8 @@ pub(crate) fn told<V: Known>(
     values: &V,
     nodes: &[u32],
 ) -> Result<Vec<NodeDistance>, RowError>
-    requires nodes { ArePlaces (V.values values.now) nodes.now }
-    ensures { IfOk result (λ told. told.items ≡ map (told_of (V.values values.now)) nodes.now) }
+    requires nodes { AreNodesOfRow (V.values values.now) nodes.now }
+    ensures { IfOk result (λ told. told.items ≡ map (node_told_of (V.values values.now)) nodes.now) }
 {
     let mut told = Vec::with_capacity(alloc, nodes.len())?;
     for &node in nodes {

@@ -4,7 +4,7 @@ ghost use mathlib.Core.List.{IsPrefix};
 ghost use Rattle.machine.specs.Laws.{IsAt};
 ghost use Rattle.roadnet.specs.Net.{IsNode};
 ghost use Rattle.rows.specs.declared.queries.Query.TheVariants.{Dist};
-ghost use Rattle.rows.specs.Replies.{refusal_of, IsDistance, IsRight};
+ghost use Rattle.rows.specs.Replies.{query_refusal_of, IsDistance, IsRight};
 ghost use Rattle.desk.specs.Readings.{IsNoPlace, IsNoReader, IsViewAfter};
 ghost use Rattle.desk.specs.Turns.{IsRefusedOn, IsUnserved, IsUntaken, WereShown};
 
@@ -262,7 +262,7 @@ impl<S: Served> Handle<S> {
         target: u64,
     ) -> Result<Reply, OutOfMemory>
         ensures right { IfOk result (IsRight glance.now.view.network (Dist source target)) }
-        ensures refused { IsSome (refusal_of glance.now.view.network (Dist source target)) → IsOk result }
+        ensures refused { IsSome (query_refusal_of glance.now.view.network (Dist source target)) → IsOk result }
     {
         if !glance.are_nodes(source, target) {
             return Ok(Reply::Refused(Refusal::NoSuchNode));

@@ -5,7 +5,7 @@ ghost use Rattle.roadnet.specs.Walks.{RowOf};
 ghost use Rattle.snapshot.specs.Groups.{IsSnapshotOf};
 ghost use Rattle.rows.specs.Backs.{LeadsBack};
 ghost use Rattle.desk.specs.Readings.{IsViewAfter};
-ghost use Rattle.desk.specs.Shelves.{most_rows, is_latest, IsOfShelf, IsAfter, IsAsked, IsAskedAt, IsNotAsked, IsRowAt, HasNoRow, HasRow};
+ghost use Rattle.desk.specs.Shelves.{most_rows, is_latest, IsOfShelf, IsAfter, IsRowAsked, IsAskedAt, IsNotAsked, IsKeptRowAt, HasNoRow, HasRow};
 
 use crate::readers::places::Glance;
 use deltastep::{Distances, Workspace};
@@ -44,7 +44,7 @@ pub(crate) struct Missed {
 
 /// The place of the row of this source, if it is among these.
 fn place_of(rows: &[KeptRow], source: u32) -> Option<usize>
-    ensures found { IfSome result (λ place. IsRowAt source rows.now place) }
+    ensures found { IfSome result (λ place. IsKeptRowAt source rows.now place) }
     ensures none { IfNone result (HasNoRow source rows.now) }
 {
     for place in 0..rows.len() {
@@ -256,7 +256,7 @@ impl<N: Naming> Shelf<N> {
     /// Whether this source is remembered for this version. If so, it is forgotten; otherwise it is remembered from now on. If there are 64 already, the
     /// first of them gives way.
     fn is_asked_again(&mut self, version: u64, source: u32) -> bool
-        ensures again { result ≡ true → IsAsked version source self.old.asked }
+        ensures again { result ≡ true → IsRowAsked version source self.old.asked }
         ensures first { result ≡ false → IsNotAsked version source self.old.asked }
         ensures groups { self.new.groups ≡ self.old.groups }
         ensures rows { self.new.rows ≡ self.old.rows }
@@ -283,7 +283,7 @@ impl<N: Naming> Shelf<N> {
     /// What a search for this source gets in this view, in which the source has no kept row: what an earlier search left, if there is something.
     pub(crate) fn missed(&mut self, glance: &Glance<N>, source: u32) -> Missed
         // The source is worth a row if it was asked before in the same version.
-        ensures again { result.again ≡ true → IsAsked glance.now.view.version source self.old.asked }
+        ensures again { result.again ≡ true → IsRowAsked glance.now.view.version source self.old.asked }
         ensures first { result.again ≡ false → IsNotAsked glance.now.view.version source self.old.asked }
     {
         let again = self.is_asked_again(glance.version(), source);

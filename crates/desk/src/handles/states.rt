@@ -2,7 +2,7 @@
 ghost use Rattle.std.specs.Prelude.{◌≡◌, None, IfOk, IfErr};
 ghost use Rattle.roadnet.specs.declared.refusals.Refusal.TheVariants.{Closed as closed};
 ghost use Rattle.std.specs.Option.{ForSome};
-ghost use Rattle.desk.specs.States.{StandsIn, StoodSo, flusher_of, working_of};
+ghost use Rattle.desk.specs.States.{StateStandsIn, StoodSo, flusher_of, working_of};
 
 use crate::handles::handle::Handle;
 use crate::lock::held::Held;
@@ -89,7 +89,7 @@ fn flusher_of<N: Naming, D: Disk>(office: &Office<N, D>, ended: bool) -> Working
 impl<N: Naming, D: Disk> Held<Office<N, D>> {
     /// How the desk stands. Refused is an office that was taken out (61).
     fn state(&self, around: Around) -> Result<DeskState, Refusal>
-        ensures stands { IfOk result (λ state. ForSome self.now.office (λ office. StandsIn office.machine self.now.flusher_ended self.now.builder_ended state)) }
+        ensures stands { IfOk result (λ state. ForSome self.now.office (λ office. StateStandsIn office.machine self.now.flusher_ended self.now.builder_ended state)) }
         ensures stood { IfOk result (StoodSo N.origin) }
         ensures around { IfOk result (λ state. (state.clients ≡ around.clients) × (state.pairs ≡ around.pairs) × (state.waiting ≡ around.waiting) × (state.uptime ≡ around.uptime)) }
         ensures causes { IfErr result (λ refusal. (refusal ≡ closed) × (self.now.office ≡ None)) }

@@ -3,7 +3,7 @@ ghost use Rattle.std.specs.Prelude.{◌≡◌, IfOk, IfSome, IsOk, IsSome};
 ghost use Rattle.roadnet.specs.Walks.{RowOf};
 ghost use Rattle.rows.specs.Backs.{LeadsBack};
 ghost use Rattle.rows.specs.declared.queries.Query.TheVariants.{Dist};
-ghost use Rattle.rows.specs.Replies.{refusal_of};
+ghost use Rattle.rows.specs.Replies.{query_refusal_of};
 ghost use Rattle.routes.specs.RouteReplies.{IsRightRoute};
 
 use crate::handles::handle::Handle;
@@ -101,7 +101,7 @@ impl<S: Served> Handle<S> {
         target: u64,
     ) -> Result<RouteReply, OutOfMemory>
         ensures right { IfOk result (IsRightRoute glance.now.view.network source target) }
-        ensures refused { IsSome (refusal_of glance.now.view.network (Dist source target)) → IsOk result }
+        ensures refused { IsSome (query_refusal_of glance.now.view.network (Dist source target)) → IsOk result }
     {
         if !glance.are_nodes(source, target) {
             return Ok(RouteReply::Refused(Refusal::NoSuchNode));

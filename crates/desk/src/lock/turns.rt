@@ -17,7 +17,7 @@ use crate::lock::held::Held;
 use disk::Disk;
 use history::Front;
 use office::{Basis, Naming, Office, Receipt, Ticket};
-use published::{Reader, Shown};
+use published::{Shown, ShownReader};
 use roadnet::{Group, Refusal};
 use std::sync::atomic::{AtomicU64, Ordering};
 
@@ -264,7 +264,7 @@ impl<N: Naming, D: Disk> Held<Office<N, D>> {
     }
 
     /// A reader of the readers' copy. Refused is one for which no free place is found (60), and an office that was taken out (61).
-    pub(crate) fn reader(&mut self) -> Result<Reader, Refusal>
+    pub(crate) fn reader(&mut self) -> Result<ShownReader, Refusal>
         ensures origin { IfOk result (λ reader. reader.origin ≡ N.origin) }
         ensures causes { IfErr result IsNoPlace }
         ensures full { IsSome self.old.office → IfErr result (λ refusal. refusal ≡ no_reader_place) }

@@ -1,6 +1,6 @@
 ghost use Rattle.std.specs.Prelude.{◌≡◌, [], IfOk, IsOk, IsSome};
 ghost use Rattle.rows.specs.declared.queries.Query.TheVariants.{Dist, From, Lower};
-ghost use Rattle.rows.specs.Replies.{refusal_of, IsRight};
+ghost use Rattle.rows.specs.Replies.{query_refusal_of, IsRight};
 ghost use Rattle.rows.specs.Views.{AreRight};
 
 use crate::readers::reader::Reader;
@@ -61,7 +61,7 @@ impl<'a, N: Naming> Pinned<'a, N> {
         target: u64,
     ) -> Result<Reply, OutOfMemory>
         ensures right { IfOk result (IsRight self.old.reader.now.view.network (Dist source target)) }
-        ensures refused { IsSome (refusal_of self.old.reader.now.view.network (Dist source target)) → IsOk result }
+        ensures refused { IsSome (query_refusal_of self.old.reader.now.view.network (Dist source target)) → IsOk result }
         ensures view { self.new.reader.now ≡ self.old.reader.now }
         ensures same { self.new.reader.ghost_name ≡ self.old.reader.ghost_name }
     {

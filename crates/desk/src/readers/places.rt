@@ -21,7 +21,7 @@ use std::sync::Arc;
 /// desk's history that it has seen or learned of. It takes no lock and waits for nobody.
 #[derive(Drop)]
 pub struct Place<N: Naming> {
-    reader: published::Reader,
+    reader: published::ShownReader,
     of: PhantomData<N>,
 }
 
@@ -38,7 +38,7 @@ impl<N: Naming> Model for Place<N> {
 
 impl<N: Naming> Place<N> {
     /// A place that has seen as much as this reader.
-    pub(crate) fn new(reader: published::Reader) -> Place<N>
+    pub(crate) fn new(reader: published::ShownReader) -> Place<N>
         requires { reader.origin ≡ N.origin }
         ensures { result ≡ reader }
     {

@@ -1,7 +1,7 @@
 ghost use Rattle.std.specs.Prelude.{◌≡◌, ◌⊎◌, [], OnErr, IfOk, IfErr, IsOk, IsSome};
 ghost use mathlib.Core.List.{IsPrefix};
 ghost use Rattle.rows.specs.declared.queries.Query.TheVariants.{Dist};
-ghost use Rattle.rows.specs.Replies.{refusal_of, IsRight};
+ghost use Rattle.rows.specs.Replies.{query_refusal_of, IsRight};
 ghost use Rattle.rows.specs.Views.{AreRight};
 ghost use Rattle.published.specs.Showing.{IsUnseen};
 ghost use Rattle.desk.specs.Readings.{Reading, IsViewAfter, HasSeen};
@@ -20,7 +20,7 @@ use std::thread::Threads;
 /// view that it looked at last. It keeps up to 16 rows of that view, of 4 or 8 bytes a node.
 #[derive(Drop)]
 pub struct Reader<N: Naming> {
-    reader: published::Reader,
+    reader: published::ShownReader,
     sight: Sight,
     of: PhantomData<N>,
 }
@@ -41,7 +41,10 @@ impl<N: Naming> Reader<N> {
     ghost use Rattle.desk.specs.contracts.readers.reader.Reader.{the_row};
 
     /// A reader that looks for the first time.
-    pub(crate) fn new(alloc: Global, mut reader: published::Reader) -> Result<Reader<N>, Refusal>
+    pub(crate) fn new(
+        alloc: Global,
+        mut reader: published::ShownReader,
+    ) -> Result<Reader<N>, Refusal>
         requires { reader.origin ≡ N.origin }
         ensures origin { IfOk result (λ made. made.known.origin ≡ N.origin) }
         ensures view { IfOk result (λ made. IsViewAfter N.origin made.known.groups made.view) }
@@ -128,7 +131,7 @@ impl<N: Naming> Reader<N> {
         target: u64,
     ) -> Result<Reply, OutOfMemory>
         ensures right { IfOk result (IsRight self.old.view.network (Dist source target)) }
-        ensures refused { IsSome (refusal_of self.old.view.network (Dist source target)) → IsOk result }
+        ensures refused { IsSome (query_refusal_of self.old.view.network (Dist source target)) → IsOk result }
         ensures same { self.new ≡ self.old }
     {
         self.sight

@@ -7,7 +7,7 @@ ghost use Rattle.snapshot.specs.Groups.{IsSnapshotOf};
 ghost use Rattle.rows.specs.Views.{AreLandmarkRows, IsRowAt};
 ghost use Rattle.desk.specs.Leaves.{landmark_of};
 ghost use Rattle.desk.specs.Repairs.{IsBefore};
-ghost use Rattle.desk.specs.Shares.{share_of, AreRowsOf, AreDealt};
+ghost use Rattle.desk.specs.Shares.{share_of, AreRowsOfLandmarks, AreSharesDealt};
 
 use crate::gates::Gate;
 use crate::threads::last::{Unbuilt, is_passed};
@@ -102,7 +102,7 @@ impl<G: Gate> RowJob<'_, G> {
         requires before { ForSome self.now.before (λ before. IsBefore self.now.snapshot.now before.now) }
         requires worker { worker < self.now.workers }
         requires few { self.now.workers ≤ 64 }
-        ensures { IfOk result (λ rows. AreRowsOf self.now.version self.now.network.now (share_of self.now.workers worker self.now.network.now.landmarks) rows.items) }
+        ensures { IfOk result (λ rows. AreRowsOfLandmarks self.now.version self.now.network.now (share_of self.now.workers worker self.now.network.now.landmarks) rows.items) }
     {
         let crew = Crew::new(rt, CHUNK);
         let mut workspace = Workspace::new();
@@ -148,7 +148,7 @@ pub(crate) fn landmark_rows<G: Gate + Sync, R: Threads + Sync>(
             requires before { ForSome job.now.before (λ before. IsBefore job.now.snapshot.now before.now) }
             requires worker { worker < job.now.workers }
             requires few { job.now.workers ≤ 64 }
-            ensures { IfOk result (λ rows. AreRowsOf job.entry.now.version job.entry.now.network.now (share_of job.entry.now.workers worker job.entry.now.network.now.landmarks) rows.items) }
+            ensures { IfOk result (λ rows. AreRowsOfLandmarks job.entry.now.version job.entry.now.network.now (share_of job.entry.now.workers worker job.entry.now.network.now.landmarks) rows.items) }
         { job.rows_of(rt, worker as u32) },
     );
     match made {
@@ -173,11 +173,11 @@ fn all_made<T: Drop>(alloc: Global, made: Vec<Result<T, Unbuilt>>) -> Result<Vec
 /// The row of the first of the remaining landmarks, from the rows that the workers have left. Then the next worker is the first.
 fn next_row<G>(job: &RowJob<'_, G>, left: &[u32], parts: &mut VecDeque<VecDeque<Row>>) -> Row
     requires some { 0 < length left.now }
-    requires dealt { AreDealt job.now.version job.now.network.now job.now.workers left.now (map (λ rows. rows.items) parts.old.items) }
+    requires dealt { AreSharesDealt job.now.version job.now.network.now job.now.workers left.now (map (λ rows. rows.items) parts.old.items) }
     requires workers { 1 ≤ job.now.workers }
     ensures landmark { result.landmark ≡ slice_index left.now 0 }
     ensures right { IsRowAt job.now.version job.now.network.now result }
-    ensures dealt { AreDealt job.now.version job.now.network.now job.now.workers (drop 1 left.now) (map (λ rows. rows.items) parts.new.items) }
+    ensures dealt { AreSharesDealt job.now.version job.now.network.now job.now.workers (drop 1 left.now) (map (λ rows. rows.items) parts.new.items) }
 {
     let mut part = parts.pop_front().unwrap();
     let row = part.pop_front().unwrap();
@@ -187,7 +187,7 @@ fn next_row<G>(job: &RowJob<'_, G>, left: &[u32], parts: &mut VecDeque<VecDeque<
 
 /// The rows of all landmarks, in their order, from those of each worker.
 fn gather<G>(job: &RowJob<'_, G>, mut parts: VecDeque<VecDeque<Row>>) -> Result<Vec<Row>, Unbuilt>
-    requires dealt { AreDealt job.now.version job.now.network.now job.now.workers job.now.network.now.landmarks (map (λ rows. rows.items) parts.items) }
+    requires dealt { AreSharesDealt job.now.version job.now.network.now job.now.workers job.now.network.now.landmarks (map (λ rows. rows.items) parts.items) }
     requires workers { 1 ≤ job.now.workers }
     ensures { IfOk result (λ rows. AreLandmarkRows job.now.version job.now.network.now rows.items) }
 {

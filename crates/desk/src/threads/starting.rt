@@ -7,15 +7,15 @@ use std::thread::{self, JoinHandle, Threads};
 
 /// The flusher and the builder.
 #[derive(Drop)]
-pub(crate) struct Started {
+pub(crate) struct StartedThreads {
     pub(crate) flusher: JoinHandle<()>,
     pub(crate) builder: JoinHandle<()>,
 }
 
-impl Started {
+impl StartedThreads {
     /// Waits until both have ended.
     pub(crate) fn join<R: Threads>(self, rt: &R) {
-        let Started { flusher, builder } = self;
+        let StartedThreads { flusher, builder } = self;
         flusher.join(rt);
         builder.join(rt);
     }

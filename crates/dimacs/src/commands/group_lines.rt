@@ -3,7 +3,7 @@ ghost use Rattle.std.specs.Prelude.{◌≡◌, ◌≢◌, ◌++◌, [], ◌∷�
 ghost use Rattle.dimacs.specs.Lines.{fields};
 ghost use Rattle.dimacs.specs.Faults.{Row, is_empty};
 ghost use Rattle.dimacs.specs.Reading.{one_numeral, two_numerals, three_numerals};
-ghost use Rattle.dimacs.specs.CommandReading.{HasGroups, IsBound, IsKind, number_read, numbers_read, three_read, ReadsLine};
+ghost use Rattle.dimacs.specs.CommandReading.{HasGroups, IsGroupBound, IsGroupLineKind, number_read, numbers_read, three_read, ReadsCommandLine};
 
 use crate::commands::open_group::OpenGroup;
 use crate::commands::words::{OneNumber, word_of_one};
@@ -25,7 +25,7 @@ pub(crate) struct GroupLines {
 }
 
 /// A line by its kind, with what follows its first field.
-enum Kind<'a> {
+enum GroupLineKind<'a> {
     /// A line with no field, or a comment.
     Ignored,
     Set(&'a [u8]),
@@ -34,16 +34,16 @@ enum Kind<'a> {
     Unknown,
 }
 
-fn kind_of(line: &[u8]) -> Kind<'_>
-    ensures { IsKind (fields line.now) result }
+fn kind_of(line: &[u8]) -> GroupLineKind<'_>
+    ensures { IsGroupLineKind (fields line.now) result }
 {
     match split_field(line) {
-        None | Some(([b'#', ..], _)) => Kind::Ignored,
-        Some((b"set", numbers)) => Kind::Set(numbers),
-        Some((b"lay", numbers)) => Kind::Lay(numbers),
+        None | Some(([b'#', ..], _)) => GroupLineKind::Ignored,
+        Some((b"set", numbers)) => GroupLineKind::Set(numbers),
+        Some((b"lay", numbers)) => GroupLineKind::Lay(numbers),
         Some((word, numbers)) => match word_of_one(word) {
-            Some(word) => Kind::One(word, numbers),
-            None => Kind::Unknown,
+            Some(word) => GroupLineKind::One(word, numbers),
+            None => GroupLineKind::Unknown,
         },
     }
 }
@@ -99,20 +99,20 @@ pub fn three_numbers(numbers: &[u8]) -> Result<(u64, u64, u64), Code>
 /// What a line of a command text says that neither begins nor ends a group: a command, or nothing. It fails with `BadLine` for another word or other
 /// numbers than the command has, and with `NumberRange` for a number with a minus or above 2^63 - 1.
 pub fn read_command(line: &[u8]) -> Result<Option<Command>, Code>
-    ensures { ReadsLine (fields line.now) result }
+    ensures { ReadsCommandLine (fields line.now) result }
 {
     match kind_of(line) {
-        Kind::Ignored => Ok(None),
-        Kind::Set(numbers) => {
+        GroupLineKind::Ignored => Ok(None),
+        GroupLineKind::Set(numbers) => {
             let (arc, length) = two_numbers(numbers)?;
             Ok(Some(Command::Set { arc, length }))
         }
-        Kind::Lay(numbers) => {
+        GroupLineKind::Lay(numbers) => {
             let (tail, head, length) = three_numbers(numbers)?;
             Ok(Some(Command::Lay { tail, head, length }))
         }
-        Kind::One(word, numbers) => Ok(Some(word.command(number(numbers)?))),
-        Kind::Unknown => Err(Code::BadLine),
+        GroupLineKind::One(word, numbers) => Ok(Some(word.command(number(numbers)?))),
+        GroupLineKind::Unknown => Err(Code::BadLine),
     }
 }
 
@@ -125,7 +125,7 @@ pub enum Bound<'a> {
 
 /// Whether the line begins a group or ends one. What follows its word is not examined.
 pub fn bound_of(line: &[u8]) -> Bound<'_>
-    ensures { IsBound (fields line.now) result }
+    ensures { IsGroupBound (fields line.now) result }
 {
     match split_field(line) {
         Some((b"begin", rest)) => Bound::Begin(rest),
@@ -260,12 +260,12 @@ impl TakeLines for GroupLines {
 ghost use Rattle.dimacs.specs.Calling.{KeepsText};
 ghost use Rattle.dimacs.specs.Commanded.{group_text};
 ghost use Rattle.dimacs.specs.Counts.{CountsFailures};
-ghost use Rattle.dimacs.specs.Texts.{InMemory, Ends, Reads, map_ok};
+ghost use Rattle.dimacs.specs.Texts.{InMemory, EndsText, ReadsText, map_ok};
 
 /// The groups at the end of a text. The text must not end within a group.
 fn groups_at_end(ended: Ended<GroupLines>) -> Result<Vec<Group>, Fault>
     ensures reads_nothing { IfErr result (λ fault. fault.code ≢ Code.Read) }
-    ensures ends { (lines : List Row) → HasGroups lines ended.taker → ended.lines ≡ length lines → Ends group_text lines (map_ok vec_items result) }
+    ensures ends { (lines : List Row) → HasGroups lines ended.taker → ended.lines ≡ length lines → EndsText group_text lines (map_ok vec_items result) }
 {
     let Ended {
         taker,
@@ -290,7 +290,7 @@ fn groups_at_end(ended: Ended<GroupLines>) -> Result<Vec<Group>, Fault>
 /// With `/` for a line feed, `begin / close 7 / set 8 4 / end / reopen 7` gives two groups, of two commands and of one. `begin / end` gives
 /// line 2, `GroupSize`; `begin / close 7` gives line 2, `OpenGroup`; `begin / begin` and `end` give `BadLine`.
 pub fn read_commands<S: Text>(alloc: Global, text: &mut S) -> Result<Vec<Group>, Fault>
-    ensures read { IfSome (S.bytes text.old) (λ bytes. Reads group_text bytes (S.source text.new) (map_ok vec_items result)) }
+    ensures read { IfSome (S.bytes text.old) (λ bytes. ReadsText group_text bytes (S.source text.new) (map_ok vec_items result)) }
     ensures counts { KeepsText CountsFailures S.Text result text.old text.new }
 {
     let ended = text.give_lines(alloc, GroupLines::new(alloc))?;
@@ -299,7 +299,7 @@ pub fn read_commands<S: Text>(alloc: Global, text: &mut S) -> Result<Vec<Group>,
 
 /// The groups of commands in a text in memory, as by `read_commands`.
 pub fn parse_commands(alloc: Global, bytes: &[u8]) -> Result<Vec<Group>, Fault>
-    ensures { Reads group_text bytes.now InMemory (map_ok vec_items result) }
+    ensures { ReadsText group_text bytes.now InMemory (map_ok vec_items result) }
 {
     let mut text = bytes;
     read_commands(alloc, &mut text)

@@ -6,7 +6,7 @@ ghost use Rattle.dimacs.specs.Counts.{CountsFailures, IsSameReader, failed_calls
 ghost use Rattle.dimacs.specs.Faults.{Row};
 ghost use Rattle.dimacs.specs.Gr.{ReadsBeforeRun};
 ghost use Rattle.dimacs.specs.Progress.{HasTaken};
-ghost use Rattle.dimacs.specs.Texts.{InMemory, Ends, Reads};
+ghost use Rattle.dimacs.specs.Texts.{InMemory, EndsText, ReadsText};
 
 use crate::fault::{Code, Fault};
 use crate::graphs::gr_lines::GrLines;
@@ -21,7 +21,7 @@ use std::io::BufRead;
 fn network_at_end(alloc: Global, ended: Ended<GrLines>) -> Result<Network, Fault>
     ensures reads_nothing { IfErr result (λ fault. fault.code ≢ Code.Read) }
     ensures bare { IfOk result (λ network. network.landmarks ≡ []) }
-    ensures ends { (lines : List Row) → HasTaken lines ended.taker → ended.lines ≡ length lines → Ends gr_text lines result }
+    ensures ends { (lines : List Row) → HasTaken lines ended.taker → ended.lines ≡ length lines → EndsText gr_text lines result }
 {
     let Ended {
         taker,
@@ -40,7 +40,7 @@ fn network_at_end(alloc: Global, ended: Ended<GrLines>) -> Result<Network, Fault
 /// `examples/six.gr` gives six nodes and eight arcs. Without its last line it has the fault `LineCount` in line 9. The empty text has `NoProblemLine` in
 /// line 0.
 pub fn read_gr<S: Text>(alloc: Global, text: &mut S) -> Result<Network, Fault>
-    ensures read { IfSome (S.bytes text.old) (λ bytes. Reads gr_text bytes (S.source text.new) result) }
+    ensures read { IfSome (S.bytes text.old) (λ bytes. ReadsText gr_text bytes (S.source text.new) result) }
     ensures bare { IfOk result (λ network. network.landmarks ≡ []) }
     ensures counts { KeepsText CountsFailures S.Text result text.old text.new }
 {
@@ -50,7 +50,7 @@ pub fn read_gr<S: Text>(alloc: Global, text: &mut S) -> Result<Network, Fault>
 
 /// The network of a `.gr` text in memory, as by `read_gr`.
 pub fn parse_gr(alloc: Global, bytes: &[u8]) -> Result<Network, Fault>
-    ensures { Reads gr_text bytes.now InMemory result }
+    ensures { ReadsText gr_text bytes.now InMemory result }
 {
     let mut text = bytes;
     read_gr(alloc, &mut text)

@@ -6,7 +6,7 @@ ghost use Rattle.dimacs.specs.Fits.{Fits};
 use crate::fault::Code;
 use crate::graphs::problem::Problem;
 use crate::graphs::reading::{item, problem};
-use crate::lines::line::{Kind, kind_of};
+use crate::lines::line::{LineKind, kind_of};
 use crate::lines::taking::TakeLines;
 use roadnet::{Network, RoadArc};
 use std::alloc::Global;
@@ -29,7 +29,7 @@ impl GrLines {
     ghost use Rattle.dimacs.specs.Format.{gr};
     ghost use Rattle.dimacs.specs.Faults.{Row, code_of};
     ghost use Rattle.dimacs.specs.Taking.{Takes};
-    ghost use Rattle.dimacs.specs.Progress.{HasTaken, Ends};
+    ghost use Rattle.dimacs.specs.Progress.{HasTaken, EndsNetwork};
 
     pub(crate) fn new(alloc: Global) -> Self
         ensures { HasTaken [] result }
@@ -66,7 +66,7 @@ impl GrLines {
     pub(crate) fn finish(self, alloc: Global) -> Result<Network, Code>
         ensures reads_nothing { IfErr result (λ code. code ≢ Code.Read) }
         ensures bare { IfOk result (λ network. network.landmarks ≡ []) }
-        ensures ends { (lines : List Row) → HasTaken lines self → Ends lines result }
+        ensures ends { (lines : List Row) → HasTaken lines self → EndsNetwork lines result }
     {
         let GrLines { problem, arcs } = self;
         let Some(problem) = problem else {
@@ -101,10 +101,10 @@ impl TakeLines for GrLines {
 
     fn take_line(&mut self, line: &[u8]) -> Result<(), Code> {
         match kind_of(line, b'a') {
-            Kind::Ignored => Ok(()),
-            Kind::Problem(words) => self.take_problem(words),
-            Kind::Item(numbers) => self.take_item(numbers),
-            Kind::Unknown => Err(Code::BadLine),
+            LineKind::Ignored => Ok(()),
+            LineKind::Problem(words) => self.take_problem(words),
+            LineKind::Item(numbers) => self.take_item(numbers),
+            LineKind::Unknown => Err(Code::BadLine),
         }
     }
 

@@ -1,7 +1,7 @@
 //! A reader that counts its failed calls.
 ghost use Rattle.std.specs.Prelude.{◌≡◌, ◌+◌, ◌-◌, ◌^◌, ◌<◌, ℕ, List, Option, IfErr};
 ghost use Rattle.dimacs.specs.Counts.{failed_calls, reader_of, IsSameReader, TakesByte, CountsCall, one_more_failed};
-ghost use Rattle.dimacs.specs.Turns.{FarFrom, Turns, HasRoom, IsNoRead, CountsTurn};
+ghost use Rattle.dimacs.specs.Turns.{FarFrom, Turns, HasRoomForLines, IsNoRead, CountsTurn};
 
 use crate::fault::Code;
 use crate::lines::feed::{Feed, TakenBytes};
@@ -40,7 +40,7 @@ fn feed_from<R: BufRead, T: TakeLines>(reader: &mut R, feed: &mut Feed<T>) -> Tu
     ensures turns { (known : Option (List ℕ))
         → FarFrom T.judge T.has_taken T.COMMENT known (R.remaining reader.old) feed.old
         → Turns T.judge T.has_taken T.COMMENT known (R.remaining reader.new) feed.new result }
-    ensures room { HasRoom feed.old feed.new result }
+    ensures room { HasRoomForLines feed.old feed.new result }
     ensures refused { IsNoRead result }
     ensures until { feed.new.until_run ≡ feed.old.until_run }
 {
@@ -126,7 +126,7 @@ impl<'r, R: BufRead> Counted<'r, R> {
             → Turns T.judge T.has_taken T.COMMENT known (R.remaining (reader_of self.new)) feed.new result }
         ensures counts { CountsTurn (failed_calls self.old) (failed_calls self.new) result }
         ensures same { IsSameReader self.old self.new }
-        ensures room { HasRoom feed.old feed.new result }
+        ensures room { HasRoomForLines feed.old feed.new result }
         ensures refused { IsNoRead result }
         ensures until { feed.new.until_run ≡ feed.old.until_run }
     {

@@ -3,7 +3,7 @@ ghost use Rattle.std.specs.Prelude.{◌≡◌, ◌≢◌, ◌+◌, ◌-◌, ◌*
 ghost use Rattle.std.specs.Io.BufRead.{strip_last};
 ghost use Rattle.dimacs.specs.Lines.{fields};
 ghost use Rattle.dimacs.specs.Faults.{Row};
-ghost use Rattle.dimacs.specs.Progress.{StandsFor, Within, Feeds, TakesOrRuns};
+ghost use Rattle.dimacs.specs.Progress.{StandsForFront, Within, Feeds, TakesOrRuns};
 ghost use Rattle.dimacs.specs.Overflow.{IsFaultOfFront};
 ghost use Rattle.dimacs.specs.NumeralEnds.{HasShortEnd};
 ghost use Rattle.dimacs.specs.Taking.{ByMemory};
@@ -13,7 +13,7 @@ ghost use Rattle.dimacs.specs.Counts.{CountsFailures, IsSameReader, failed_calls
 
 use crate::fault::{Code, Fault};
 use crate::lines::counted::{Counted, Turn};
-use crate::lines::front::Front;
+use crate::lines::front::LineFront;
 use crate::lines::line::{
     is_remark, overflows, split_at_feed, split_line, without_blanks, without_carriage_return,
 };
@@ -25,7 +25,7 @@ use std::io::BufRead;
 #[derive(Drop)]
 pub(crate) struct Feed<T> {
     pub(crate) taker: T,
-    pub(crate) kept: Front,
+    pub(crate) kept: LineFront,
     pub(crate) lines: u64,
     pub(crate) until_run: bool,
     pub(crate) left: u64,
@@ -52,7 +52,7 @@ impl<T: TakeLines> Feed<T> {
         ensures reads_nothing { IfErr result (λ code. code ≢ Code.Read) }
         ensures empty { OnOk result (self.new.kept.bytes.items ≡ []) }
         ensures taken { (earlier : List Row) (front : List ℕ) → T.has_taken earlier self.old.taker
-            → StandsFor T.COMMENT front self.old.kept.bytes.items
+            → StandsForFront T.COMMENT front self.old.kept.bytes.items
             → TakesOrRuns T.judge T.has_taken self.old.until_run earlier
             (fields (strip_last 13 (front ++ piece.now))) self.new.taker result }
         ensures lines { self.new.lines ≡ self.old.lines }
@@ -78,8 +78,8 @@ impl<T: TakeLines> Feed<T> {
 
     /// Keeps more bytes, without blanks that follow a blank.
     fn append_fields(&mut self, piece: &[u8]) -> Result<(), Code>
-        ensures kept { OnOk result ((front : List ℕ) → StandsFor T.COMMENT front self.old.kept.bytes.items
-            → (self.old.kept.bytes.items ≡ T.COMMENT ∷ [] → ⊥) → StandsFor T.COMMENT (front ++ piece.now) self.new.kept.bytes.items) }
+        ensures kept { OnOk result ((front : List ℕ) → StandsForFront T.COMMENT front self.old.kept.bytes.items
+            → (self.old.kept.bytes.items ≡ T.COMMENT ∷ [] → ⊥) → StandsForFront T.COMMENT (front ++ piece.now) self.new.kept.bytes.items) }
         ensures refused { IfErr result (λ code. code ≡ Code.OutOfMemory) }
         ensures taker { self.new.taker ≡ self.old.taker }
         ensures lines { self.new.lines ≡ self.old.lines }
@@ -108,10 +108,10 @@ impl<T: TakeLines> Feed<T> {
     /// Examines what is kept, once that is twice as much as at the last look. Of a comment only the mark is kept, the fault of a line that overflows is
     /// reported, and of a long numeral at the end only as many digits are kept as determine its size.
     fn look(&mut self) -> Result<(), Code>
-        ensures kept { OnOk result ((front : List ℕ) → StandsFor T.COMMENT front self.old.kept.bytes.items
-            → StandsFor T.COMMENT front self.new.kept.bytes.items) }
+        ensures kept { OnOk result ((front : List ℕ) → StandsForFront T.COMMENT front self.old.kept.bytes.items
+            → StandsForFront T.COMMENT front self.new.kept.bytes.items) }
         ensures refused { (earlier : List Row) (front : List ℕ) → T.has_taken earlier self.old.taker
-            → StandsFor T.COMMENT front self.old.kept.bytes.items
+            → StandsForFront T.COMMENT front self.old.kept.bytes.items
             → IfErr result (λ code. ByMemory code (IsFaultOfFront T.judge earlier front code) ⊤) }
         ensures reads_nothing { IfErr result (λ code. code ≢ Code.Read) }
         ensures short { OnOk result ((length self.new.kept.bytes.items < 2 * self.new.kept.judged) ⊎ HasShortEnd self.new.kept.bytes.items) }
@@ -143,10 +143,10 @@ impl<T: TakeLines> Feed<T> {
     /// Keeps the beginning of the next line, without blanks that follow a blank, and of a comment only its mark. The fault of a line that overflows is
     /// reported at once.
     fn keep(&mut self, piece: &[u8]) -> Result<(), Code>
-        ensures kept { OnOk result ((front : List ℕ) → StandsFor T.COMMENT front self.old.kept.bytes.items
-            → StandsFor T.COMMENT (front ++ piece.now) self.new.kept.bytes.items) }
+        ensures kept { OnOk result ((front : List ℕ) → StandsForFront T.COMMENT front self.old.kept.bytes.items
+            → StandsForFront T.COMMENT (front ++ piece.now) self.new.kept.bytes.items) }
         ensures refused { (earlier : List Row) (front : List ℕ) → T.has_taken earlier self.old.taker
-            → StandsFor T.COMMENT front self.old.kept.bytes.items
+            → StandsForFront T.COMMENT front self.old.kept.bytes.items
             → IfErr result (λ code. ByMemory code (IsFaultOfFront T.judge earlier (front ++ piece.now) code) ⊤) }
         ensures some { OnErr result (0 < length piece.now) }
         ensures reads_nothing { IfErr result (λ code. code ≢ Code.Read) }
@@ -286,7 +286,7 @@ pub(crate) fn read_lines<T: TakeLines, R: BufRead>(
 {
     let mut feed = Feed {
         taker,
-        kept: Front::new(alloc),
+        kept: LineFront::new(alloc),
         lines: 0,
         until_run,
         left: u64::MAX - 1,

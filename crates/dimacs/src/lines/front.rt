@@ -13,7 +13,7 @@ const MOST_DIGITS: usize = 21;
 /// The part of a line that is kept. All of it is examined when it is twice as much as at the last look, and once more when the line ends; then it is
 /// dropped. So its bytes, and those that a look left out, are examined at most three times.
 #[derive(Drop)]
-pub(crate) struct Front {
+pub(crate) struct LineFront {
     bytes: Vec<u8>,
     /// How many bytes were kept at the last look.
     judged: usize,
@@ -23,7 +23,7 @@ pub(crate) struct Front {
     ghost linear: { looked ≤ 2 * judged },
 }
 
-impl Front {
+impl LineFront {
     ghost use Rattle.std.specs.Prelude.{◌≢◌, ℕ, List};
     ghost use Rattle.std.specs.Io.BufRead.{strip_last};
     ghost use Rattle.dimacs.specs.Lines.{fields};
@@ -34,10 +34,10 @@ impl Front {
     ghost use Rattle.dimacs.specs.Progress.{TakesOrRuns};
 
     /// Nothing is kept.
-    pub(crate) fn new(alloc: Global) -> Front
+    pub(crate) fn new(alloc: Global) -> LineFront
         ensures { result.bytes.items ≡ [] }
     {
-        Front {
+        LineFront {
             bytes: Vec::new(alloc),
             judged: 0,
             looked: 0,

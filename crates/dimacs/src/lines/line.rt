@@ -4,10 +4,10 @@ ghost use Rattle.std.specs.List.{position, position_or_len, list_all};
 ghost use Rattle.dimacs.specs.Digits.{is_decimal};
 ghost use Rattle.std.specs.Io.BufRead.{strip_last};
 ghost use Rattle.dimacs.specs.Lines.{is_line_feed, is_blank, lines, fields};
-ghost use Rattle.dimacs.specs.Kinds.{IsKind};
+ghost use Rattle.dimacs.specs.Kinds.{IsLineKind};
 ghost use Rattle.dimacs.specs.Faults.{is_remark};
 ghost use Rattle.dimacs.specs.Joint.{is_run};
-ghost use Rattle.dimacs.specs.Overflow.{GoesOn, has_other_byte, is_beyond, Overflowing, IsBlankFront, EndsInBlank};
+ghost use Rattle.dimacs.specs.Overflow.{LineGoesOn, has_other_byte, is_beyond, Overflowing, IsBlankFront, EndsInBlank};
 
 use memchr::memchr;
 
@@ -41,7 +41,7 @@ fn field_len(rest: &[u8]) -> usize
 fn split_front(front: &[u8]) -> Option<(&[u8], &[u8])>
     ensures line { MatchOption result (fields front.now ≡ [])
         (λ found. fields front.now ≡ found.0.now ∷ fields found.1.now) }
-    ensures goes_on { IfSome result (λ found. (more : List ℕ) → GoesOn front.now found.0.now found.1.now more) }
+    ensures goes_on { IfSome result (λ found. (more : List ℕ) → LineGoesOn front.now found.0.now found.1.now more) }
     ensures shorter { IfSome result (λ found. length found.1.now < length front.now) }
 {
     let start = field_start(front)?;
@@ -199,7 +199,7 @@ pub(crate) fn is_run(line: &[u8]) -> bool
 }
 
 /// A line by its kind, with what follows its first field.
-pub(crate) enum Kind<'a> {
+pub(crate) enum LineKind<'a> {
     /// A line with no field, or a comment.
     Ignored,
     Problem(&'a [u8]),
@@ -208,14 +208,14 @@ pub(crate) enum Kind<'a> {
 }
 
 /// The kind of a line, in a format whose item lines begin with this letter.
-pub(crate) fn kind_of(line: &[u8], item: u8) -> Kind<'_>
+pub(crate) fn kind_of(line: &[u8], item: u8) -> LineKind<'_>
     requires { (item ≢ 99) × (item ≢ 112) }
-    ensures { IsKind item (fields line.now) result }
+    ensures { IsLineKind item (fields line.now) result }
 {
     match split_field(line) {
-        None | Some(([b'c', ..], _)) => Kind::Ignored,
-        Some((b"p", words)) => Kind::Problem(words),
-        Some(([first], numbers)) if *first == item => Kind::Item(numbers),
-        Some(_) => Kind::Unknown,
+        None | Some(([b'c', ..], _)) => LineKind::Ignored,
+        Some((b"p", words)) => LineKind::Problem(words),
+        Some(([first], numbers)) if *first == item => LineKind::Item(numbers),
+        Some(_) => LineKind::Unknown,
     }
 }

@@ -74,7 +74,7 @@ impl NodeItem for u32 {
 ghost use Rattle.dimacs.specs.Calling.{KeepsText};
 ghost use Rattle.dimacs.specs.Counts.{CountsFailures};
 ghost use Rattle.dimacs.specs.Landmarks.{ss_text, AreNodes};
-ghost use Rattle.dimacs.specs.Texts.{InMemory, Reads, map_ok};
+ghost use Rattle.dimacs.specs.Texts.{InMemory, ReadsText, map_ok};
 
 /// These nodes as a set: an ascending list.
 fn as_set(nodes: Vec<u32>) -> Vec<u32>
@@ -93,7 +93,7 @@ fn as_set(nodes: Vec<u32>) -> Vec<u32>
 ///
 /// With six nodes, and `/` for a line feed, `p aux sp ss 3 / s 6 / s 3 / s 6` gives 3 and 6; `p aux sp ss 3 / s 7` gives line 2, `NodeRange`.
 pub fn read_ss<S: Text>(alloc: Global, text: &mut S, nodes: u32) -> Result<Vec<u32>, Fault>
-    ensures read { IfSome (S.bytes text.old) (λ bytes. Reads (ss_text nodes) bytes (S.source text.new) (map_ok vec_items result)) }
+    ensures read { IfSome (S.bytes text.old) (λ bytes. ReadsText (ss_text nodes) bytes (S.source text.new) (map_ok vec_items result)) }
     ensures ascending { IfOk result (λ landmarks. IsStrictlyIncreasing landmarks.items) }
     ensures nodes { IfOk result (λ landmarks. AreNodes nodes landmarks.items) }
     ensures counts { KeepsText CountsFailures S.Text result text.old text.new }
@@ -104,7 +104,7 @@ pub fn read_ss<S: Text>(alloc: Global, text: &mut S, nodes: u32) -> Result<Vec<u
 
 /// The landmarks of a `.ss` text in memory, as by `read_ss`.
 pub fn parse_ss(alloc: Global, bytes: &[u8], nodes: u32) -> Result<Vec<u32>, Fault>
-    ensures text { Reads (ss_text nodes) bytes.now InMemory (map_ok vec_items result) }
+    ensures text { ReadsText (ss_text nodes) bytes.now InMemory (map_ok vec_items result) }
     ensures ascending { IfOk result (λ landmarks. IsStrictlyIncreasing landmarks.items) }
     ensures nodes { IfOk result (λ landmarks. AreNodes nodes landmarks.items) }
 {

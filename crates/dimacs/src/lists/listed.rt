@@ -11,14 +11,14 @@ ghost use Rattle.dimacs.specs.Taking.{Takes};
 ghost use Rattle.dimacs.specs.Listed.{kind_words, listed, text_of_items, ReadsItem, HasItems};
 ghost use Rattle.dimacs.specs.ListedReading.{count_after, count_of_numeral};
 ghost use Rattle.dimacs.specs.Overflow.{code_after_fields};
-ghost use Rattle.dimacs.specs.Texts.{Ends, IsSaid, Reads, map_ok};
+ghost use Rattle.dimacs.specs.Texts.{EndsText, IsSaid, ReadsText, map_ok};
 ghost use Rattle.dimacs.specs.Calling.{KeepsText};
 ghost use Rattle.dimacs.specs.Counts.{CountsFailures};
 
 use crate::fault::{Code, Fault};
 use crate::graphs::reading::{other_kind, split_one};
 use crate::lines::feed::Ended;
-use crate::lines::line::{Kind, kind_of, split_field};
+use crate::lines::line::{LineKind, kind_of, split_field};
 use crate::lines::taking::TakeLines;
 use crate::lines::text::Text;
 use crate::numerals::numeral::Numeral;
@@ -198,10 +198,10 @@ impl<I: NodeItem, K: NodeCount> TakeLines for NodeLines<I, K> {
 
     fn take_line(&mut self, line: &[u8]) -> Result<(), Code> {
         match kind_of(line, I::LETTER) {
-            Kind::Ignored => Ok(()),
-            Kind::Problem(words) => self.take_problem(words),
-            Kind::Item(numbers) => self.take_item(numbers),
-            Kind::Unknown => Err(Code::BadLine),
+            LineKind::Ignored => Ok(()),
+            LineKind::Problem(words) => self.take_problem(words),
+            LineKind::Item(numbers) => self.take_item(numbers),
+            LineKind::Unknown => Err(Code::BadLine),
         }
     }
 
@@ -224,7 +224,7 @@ fn items_at_end<I: NodeItem, K: NodeCount>(ended: Ended<NodeLines<I, K>>) -> Res
     ensures ends { (lines : List Row)
         → HasItems (listed I.word I.LETTER I.quantities K.nodes) I.says lines ended.taker.nodes ended.taker.count ended.taker.items.items
         → ended.lines ≡ length lines
-        → Ends (text_of_items (listed I.word I.LETTER I.quantities K.nodes) I.says) lines (map_ok vec_items result) }
+        → EndsText (text_of_items (listed I.word I.LETTER I.quantities K.nodes) I.says) lines (map_ok vec_items result) }
 {
     let Ended {
         taker,
@@ -260,7 +260,7 @@ pub(crate) fn read_items<I: NodeItem, K: NodeCount, S: Text>(
 ) -> Result<Vec<I>, Fault>
     requires { nodes ≡ K.nodes }
     ensures read { IfSome (S.bytes text.old)
-        (λ bytes. Reads (text_of_items (listed I.word I.LETTER I.quantities K.nodes) I.says) bytes (S.source text.new) (map_ok vec_items result)) }
+        (λ bytes. ReadsText (text_of_items (listed I.word I.LETTER I.quantities K.nodes) I.says) bytes (S.source text.new) (map_ok vec_items result)) }
     ensures said { IfOk result (λ items. IsSaid (text_of_items (listed I.word I.LETTER I.quantities K.nodes) I.says) items.items) }
     ensures counts { KeepsText CountsFailures S.Text result text.old text.new }
 {

@@ -3,7 +3,7 @@ ghost use Rattle.std.specs.Prelude.{IfSome, vec_items};
 ghost use Rattle.dimacs.specs.Calling.{KeepsText};
 ghost use Rattle.dimacs.specs.Counts.{CountsFailures};
 ghost use Rattle.dimacs.specs.Landmarks.{nodes_text};
-ghost use Rattle.dimacs.specs.Texts.{Reads, map_ok};
+ghost use Rattle.dimacs.specs.Texts.{ReadsText, map_ok};
 
 use crate::fault::Fault;
 use crate::lines::text::Text;
@@ -17,7 +17,7 @@ use std::marker::Brand;
 ///
 /// With six nodes, and `/` for a line feed, `p aux sp ss 3 / s 6 / s 3 / s 6` gives 6, 3 and 6.
 pub fn read_nodes<S: Text>(alloc: Global, text: &mut S, nodes: u32) -> Result<Vec<u32>, Fault>
-    ensures read { IfSome (S.bytes text.old) (λ bytes. Reads (nodes_text nodes) bytes (S.source text.new) (map_ok vec_items result)) }
+    ensures read { IfSome (S.bytes text.old) (λ bytes. ReadsText (nodes_text nodes) bytes (S.source text.new) (map_ok vec_items result)) }
     ensures counts { KeepsText CountsFailures S.Text result text.old text.new }
 {
     read_items::<u32, Brand, S>(alloc, text, nodes)

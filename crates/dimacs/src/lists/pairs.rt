@@ -88,7 +88,7 @@ impl NodeItem for Pair {
 ghost use Rattle.dimacs.specs.Calling.{KeepsText};
 ghost use Rattle.dimacs.specs.Counts.{CountsFailures};
 ghost use Rattle.dimacs.specs.Pairs.{p2p_text};
-ghost use Rattle.dimacs.specs.Texts.{InMemory, Reads, map_ok};
+ghost use Rattle.dimacs.specs.Texts.{InMemory, ReadsText, map_ok};
 
 /// The pairs of a `.p2p` text for a network of `nodes` nodes, in the order of their lines, or the text's first fault. The count of failed calls
 /// distinguishes a failed read from a fault of the text. After an `Err` the text is not used again. The call takes 8 bytes a pair.
@@ -96,7 +96,7 @@ ghost use Rattle.dimacs.specs.Texts.{InMemory, Reads, map_ok};
 /// With six nodes, and `/` for a line feed, `p aux sp p2p 2 / q 1 6 / q 5 6` gives the pairs from 1 to 6 and from 5 to 6. `p aux sp p2p 1 / q 1 7` gives
 /// line 2, `NodeRange`, and `p aux sp p2p 2 / q 1 6` gives line 2, `LineCount`.
 pub fn read_p2p<S: Text>(alloc: Global, text: &mut S, nodes: u32) -> Result<Vec<Pair>, Fault>
-    ensures read { IfSome (S.bytes text.old) (λ bytes. Reads (p2p_text nodes) bytes (S.source text.new) (map_ok vec_items result)) }
+    ensures read { IfSome (S.bytes text.old) (λ bytes. ReadsText (p2p_text nodes) bytes (S.source text.new) (map_ok vec_items result)) }
     ensures counts { KeepsText CountsFailures S.Text result text.old text.new }
 {
     read_items::<Pair, Brand, S>(alloc, text, nodes)
@@ -104,7 +104,7 @@ pub fn read_p2p<S: Text>(alloc: Global, text: &mut S, nodes: u32) -> Result<Vec<
 
 /// The pairs of a `.p2p` text in memory, as by `read_p2p`.
 pub fn parse_p2p(alloc: Global, bytes: &[u8], nodes: u32) -> Result<Vec<Pair>, Fault>
-    ensures { Reads (p2p_text nodes) bytes.now InMemory (map_ok vec_items result) }
+    ensures { ReadsText (p2p_text nodes) bytes.now InMemory (map_ok vec_items result) }
 {
     let mut text = bytes;
     read_p2p(alloc, &mut text, nodes)

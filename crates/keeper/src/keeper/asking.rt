@@ -1,7 +1,7 @@
 // Queries answered.
 ghost use Rattle.std.specs.Prelude.{◌≡◌, ℕ, IsOk, IsSome};
 ghost use Rattle.rows.specs.declared.queries.Query.TheVariants.{From, Lower};
-ghost use Rattle.rows.specs.Replies.{refusal_of};
+ghost use Rattle.rows.specs.Replies.{query_refusal_of};
 ghost use Rattle.machine.specs.Calls.{Asks};
 ghost use Rattle.keeper.specs.Keeping.{OfShown};
 ghost use Rattle.keeper.specs.Parts.{or_out_of_memory};
@@ -24,7 +24,7 @@ impl<D: Disk> Keeper<D> {
     pub fn ask<R: Threads>(&mut self, rt: &R, query: Query) -> Result<Answer, OutOfMemory>
         ensures step { Asks self.old.machine query (or_out_of_memory result) self.new.machine }
         ensures same { self.new ≡ self.old }
-        ensures refused { OfShown self.old.machine (λ net. IsSome (refusal_of net query) → IsOk result) }
+        ensures refused { OfShown self.old.machine (λ net. IsSome (query_refusal_of net query) → IsOk result) }
         ensures landmark { (l t : ℕ) → query ≡ From l t → IsOk result }
         ensures lower { (s t : ℕ) → query ≡ Lower s t → IsOk result }
     {

@@ -7,7 +7,7 @@ ghost use Rattle.roadnet.specs.declared.refusals.Refusal.TheVariants.{Device as 
 ghost use Rattle.machine.specs.Calls.{Submits, Flushes, StepsCheckpoint, has_nothing_unchecked};
 ghost use Rattle.machine.specs.Lives.{Checkpoints};
 ghost use Rattle.keeper.specs.Keeping.{IsDurableIn, IsLeftByFlush, LeavesAtAnyMoment};
-ghost use Rattle.keeper.specs.Parts.{ticket_for, told_as};
+ghost use Rattle.keeper.specs.Parts.{ticket_for, told_step};
 
 use crate::keeper::keepers::Keeper;
 use disk::Disk;
@@ -69,7 +69,7 @@ impl<D: Disk> Keeper<D> {
     pub fn checkpoint_step(&mut self, pages: u32) -> Result<Part, Refusal>
         requires some { 1 ≤ pages }
         requires few { pages ≤ 64 }
-        ensures step { StepsCheckpoint self.old.machine pages (told_as result) self.new.machine }
+        ensures step { StepsCheckpoint self.old.machine pages (told_step result) self.new.machine }
         // If no checkpoint is going and no page is unchecked, nothing is changed, not even on the disk.
         ensures nothing { self.old.machine.broken ≡ false → has_nothing_unchecked self.old.machine ≡ true → self.new ≡ self.old }
         ensures same { IfErr result (λ refusal. refusal ≢ device → self.new ≡ self.old) }

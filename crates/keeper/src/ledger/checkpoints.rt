@@ -8,7 +8,7 @@ ghost use Rattle.machine.specs.Machine.{IsState};
 ghost use Rattle.machine.specs.Calls.{StepsCheckpoint, has_nothing_unchecked};
 ghost use Rattle.machine.specs.Lives.{Checkpoints};
 ghost use Rattle.keeper.specs.Keeping.{IsDurableIn, LeavesAtAnyMoment};
-ghost use Rattle.keeper.specs.Parts.{told_as};
+ghost use Rattle.keeper.specs.Parts.{told_step};
 
 use crate::ledger::ledgers::{Ledger, has_failed};
 use disk::Disk;
@@ -34,7 +34,7 @@ impl<D: Disk> Ledger<D> {
     pub fn checkpoint_step(&mut self, pages: u32) -> Result<Part, Refusal>
         requires some { 1 ≤ pages }
         requires few { pages ≤ 64 }
-        ensures step { StepsCheckpoint self.old.machine pages (told_as result) self.new.machine }
+        ensures step { StepsCheckpoint self.old.machine pages (told_step result) self.new.machine }
         // If no checkpoint is going and no page is unchecked, nothing is changed, not even on the disk.
         ensures nothing { self.old.machine.broken ≡ false → has_nothing_unchecked self.old.machine ≡ true → self.new ≡ self.old }
         ensures same { IfErr result (λ refusal. refusal ≢ device → self.new ≡ self.old) }

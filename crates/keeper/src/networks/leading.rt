@@ -4,13 +4,13 @@ ghost use Rattle.std.specs.Bool.{Decides};
 ghost use Rattle.roadnet.specs.Net.{Net, IsNetwork, longest_arc, most_nodes};
 ghost use Rattle.roadnet.specs.Step.{after, changed, first_refusal, new_arc, refusal_of};
 ghost use Rattle.roadnet.specs.Batches.{changed_by, changed_by_all, first_refusal_of_all};
-ghost use Rattle.keeper.specs.Leading.{Sees};
+ghost use Rattle.keeper.specs.Leading.{SeesAt};
 
 use roadnet::{Command, Group, Network, RoadArc};
 
 /// What a network shows at one number: its arc, if there is one, whether its node is a landmark, and how many arcs there are.
 #[derive(Clone, Copy, Debug, PartialEq, Eq)]
-struct Seen {
+struct SeenPlace {
     arc: Option<RoadArc>,
     marked: bool,
     arcs: u64,
@@ -54,60 +54,60 @@ fn laid(tail: u64, head: u64, length: u64) -> RoadArc
 }
 
 /// What number `k` shows after an admitted command.
-fn seen_after_one(command: &Command, k: u64, seen: Seen) -> Seen
-    ensures { (net : Net) → IsNetwork net → refusal_of net command.now ≡ None → Sees net k seen → Sees (changed net command.now) k result }
+fn seen_after_one(command: &Command, k: u64, seen: SeenPlace) -> SeenPlace
+    ensures { (net : Net) → IsNetwork net → refusal_of net command.now ≡ None → SeesAt net k seen → SeesAt (changed net command.now) k result }
 {
-    let Seen { arc, marked, arcs } = seen;
+    let SeenPlace { arc, marked, arcs } = seen;
     match *command {
         Command::Set { arc: named, length } => {
             if named != k {
                 return seen;
             }
             let arc = with_length(arc, length);
-            Seen { arc, marked, arcs }
+            SeenPlace { arc, marked, arcs }
         }
         Command::Close { arc: named } => {
             if named != k {
                 return seen;
             }
             let arc = with_flag(arc, false);
-            Seen { arc, marked, arcs }
+            SeenPlace { arc, marked, arcs }
         }
         Command::Reopen { arc: named } => {
             if named != k {
                 return seen;
             }
             let arc = with_flag(arc, true);
-            Seen { arc, marked, arcs }
+            SeenPlace { arc, marked, arcs }
         }
         Command::Mark { node } => {
             if node != k {
                 return seen;
             }
             let marked = true;
-            Seen { arc, marked, arcs }
+            SeenPlace { arc, marked, arcs }
         }
         Command::Unmark { node } => {
             if node != k {
                 return seen;
             }
             let marked = false;
-            Seen { arc, marked, arcs }
+            SeenPlace { arc, marked, arcs }
         }
         Command::Lay { tail, head, length } => {
             let arcs = one_more(arcs);
             if arcs != k {
-                return Seen { arc, marked, arcs };
+                return SeenPlace { arc, marked, arcs };
             }
             let arc = Some(laid(tail, head, length));
-            Seen { arc, marked, arcs }
+            SeenPlace { arc, marked, arcs }
         }
     }
 }
 
 /// What number `k` shows after commands that are each admitted in turn.
-fn seen_after(commands: &[Command], k: u64, seen: Seen) -> Seen
-    ensures { (net : Net) → IsNetwork net → first_refusal net commands.now ≡ None → Sees net k seen → Sees (changed_by net commands.now) k result }
+fn seen_after(commands: &[Command], k: u64, seen: SeenPlace) -> SeenPlace
+    ensures { (net : Net) → IsNetwork net → first_refusal net commands.now ≡ None → SeesAt net k seen → SeesAt (changed_by net commands.now) k result }
 {
     let mut last = seen;
     for command in commands {
@@ -117,8 +117,8 @@ fn seen_after(commands: &[Command], k: u64, seen: Seen) -> Seen
 }
 
 /// What number `k` shows after groups whose commands are each admitted in turn.
-fn seen_after_all(groups: &[Group], k: u64, seen: Seen) -> Seen
-    ensures { (net : Net) → IsNetwork net → first_refusal_of_all net groups.now ≡ None → Sees net k seen → Sees (changed_by_all net groups.now) k result }
+fn seen_after_all(groups: &[Group], k: u64, seen: SeenPlace) -> SeenPlace
+    ensures { (net : Net) → IsNetwork net → first_refusal_of_all net groups.now ≡ None → SeesAt net k seen → SeesAt (changed_by_all net groups.now) k result }
 {
     let mut last = seen;
     for group in groups {
@@ -128,10 +128,10 @@ fn seen_after_all(groups: &[Group], k: u64, seen: Seen) -> Seen
 }
 
 /// What number `k` of a network shows.
-fn see(network: &Network, k: u64) -> Seen
-    ensures { Sees network.now k result }
+fn see(network: &Network, k: u64) -> SeenPlace
+    ensures { SeesAt network.now k result }
 {
-    Seen {
+    SeenPlace {
         arc: network.arc(k),
         marked: network.is_landmark(k),
         arcs: network.arcs().len() as u64,
@@ -139,7 +139,7 @@ fn see(network: &Network, k: u64) -> Seen
 }
 
 /// Whether both show the same.
-fn is_same(one: Seen, other: Seen) -> bool
+fn is_same(one: SeenPlace, other: SeenPlace) -> bool
     ensures { Decides result (one ≡ other) }
 {
     one == other

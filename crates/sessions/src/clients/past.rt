@@ -2,9 +2,9 @@
 ghost use Rattle.std.specs.Prelude.{◌≡◌, ◌<◌, ◌≤◌, [], true, false, length, IfSome};
 ghost use Rattle.std.specs.Option.{ForSome};
 ghost use mathlib.Core.List.{IsPrefix};
-ghost use Rattle.sessions.specs.Past.{AreKept, AreLeft, HoldsMore, LeavesOneMore};
+ghost use Rattle.sessions.specs.Past.{AreSessionsKept, AreLeft, HoldsMore, LeavesOneMore};
 ghost use Rattle.sessions.specs.Told.{known_to};
-ghost use Rattle.sessions.specs.Turns.{Standing, IsSessionAt, IsKept};
+ghost use Rattle.sessions.specs.Turns.{SessionStanding, IsSessionAt, IsSessionKept};
 
 use crate::session::sessions::Session;
 use desk::{Closed, Naming};
@@ -41,7 +41,7 @@ impl<N: Naming> Session<N> {
     /// It returns false only if the desk showed fewer groups than the session has seen, which never happens.
     pub fn is_kept<D: Disk>(&self, closed: &Closed<D>) -> bool
         requires { closed.now.whole.origin ≡ N.origin }
-        ensures kept { result ≡ true → (last : Standing) → IsSessionAt N.origin self.now.place self.now.receipts last → IsKept closed.now.whole closed.now.shown last }
+        ensures kept { result ≡ true → (last : SessionStanding) → IsSessionAt N.origin self.now.place self.now.receipts last → IsSessionKept closed.now.whole closed.now.shown last }
         ensures fewer { result ≡ false → length closed.now.shown.groups < length (known_to self.now.place) }
     {
         compare(&self.receipts, &closed.whole);
@@ -91,7 +91,7 @@ impl<N: Naming> Past<N> {
     /// Compares what the sessions left with their desk, which is closed, as `Session::is_kept` does for one.
     pub fn is_kept<D: Disk>(&self, closed: &Closed<D>) -> bool
         requires { closed.now.whole.origin ≡ N.origin }
-        ensures { result ≡ true → AreKept N.origin self.now.receipts self.now.seen closed.now.whole closed.now.shown }
+        ensures { result ≡ true → AreSessionsKept N.origin self.now.receipts self.now.seen closed.now.whole closed.now.shown }
     {
         compare(&self.receipts, &closed.whole);
         match &self.seen {

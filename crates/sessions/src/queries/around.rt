@@ -2,7 +2,7 @@
 ghost use Rattle.std.specs.Prelude.{◌≡◌, ◌++◌, All, IfOk, IfErr, OnOk};
 ghost use Rattle.roadnet.specs.Net.{IsNode};
 ghost use Rattle.rows.specs.Views.{AreRight};
-ghost use Rattle.suppositions.specs.Supposing.{IsUnanswered};
+ghost use Rattle.suppositions.specs.Supposing.{IsSuppositionUnanswered};
 ghost use Rattle.session_lines.specs.Listings.{sources_of, targets_of};
 ghost use Rattle.sessions.specs.Saying.{PutsSo};
 ghost use Rattle.sessions.specs.Supposing.{IsNearIn, IsTableIn};
@@ -39,7 +39,7 @@ pub(crate) fn near_supposed<R: Threads, W: Write>(
 
 /// The pairs of a table, with their replies in the supposed network.
 #[derive(Drop)]
-struct Told {
+struct ToldTable {
     pairs: Vec<(u64, u64)>,
     replies: Vec<Reply>,
 }
@@ -50,11 +50,11 @@ fn find_table<R: Threads>(
     alloc: Global,
     supposed: &Supposed,
     table: &Table,
-) -> Result<Told, Refusal>
+) -> Result<ToldTable, Refusal>
     ensures pairs { IfOk result (λ told. told.pairs.items ≡ pairs_of (sources_of table.now) (targets_of table.now)) }
     ensures right { IfOk result (λ told. AreRight supposed.now.network told.pairs.items told.replies.items) }
     ensures nodes { OnOk result (All (IsNode supposed.now.network) (sources_of table.now ++ targets_of table.now)) }
-    ensures refused { IfErr result (IsUnanswered (All (IsNode supposed.now.network) (sources_of table.now ++ targets_of table.now))) }
+    ensures refused { IfErr result (IsSuppositionUnanswered (All (IsNode supposed.now.network) (sources_of table.now ++ targets_of table.now))) }
 {
     let (sources, targets) = table.halves();
     let starts = supposed.has_nodes(sources);
@@ -69,7 +69,7 @@ fn find_table<R: Threads>(
         return Err(Refusal::OutOfMemory);
     };
     match supposed.table(rt, alloc, &pairs) {
-        Ok(replies) => Ok(Told { pairs, replies }),
+        Ok(replies) => Ok(ToldTable { pairs, replies }),
         Err(refusal) => Err(refusal),
     }
 }

@@ -6,7 +6,7 @@ ghost use Rattle.rows.specs.Replies.{IsRight};
 ghost use Rattle.session_lines.specs.SessionLines.{name_of};
 ghost use Rattle.session_lines.specs.Copying.{IsUnmade};
 ghost use Rattle.sessions.specs.Saying.{PutsSo};
-ghost use Rattle.sessions.specs.Told.{known_to, AnswersAfter, IsCopied, IsLooked, IsUnsighted, Replies};
+ghost use Rattle.sessions.specs.Told.{known_to, AnswersAfter, IsCopied, IsLookTold, IsUnsighted, Replies};
 
 use crate::session::seeing::see;
 use crate::told::telling::{tell_copied, tell_fault, tell_look, tell_refusal};
@@ -79,7 +79,7 @@ pub(crate) fn look_shown<S: Served, W: Write>(
     look: Look,
     out: &mut CountedWriter<'_, W>,
 ) -> Result<(), Failed>
-    ensures told { PutsSo W.contents (IsLooked S.Naming.origin (known_to place.new) look) result out.old out.new }
+    ensures told { PutsSo W.contents (IsLookTold S.Naming.origin (known_to place.new) look) result out.old out.new }
     ensures begins { IsPrefix (known_to place.old) (known_to place.new) }
 {
     match see(place, desk) {

@@ -3,7 +3,7 @@ ghost use Rattle.std.specs.Prelude.{◌≡◌, None, IfOk, IfErr, OnOk};
 ghost use mathlib.Core.List.{IsPrefix};
 ghost use Rattle.sessions.specs.Told.{IsLastUnserved};
 ghost use Rattle.printing.specs.Writers.{OnlyWriterFails};
-ghost use Rattle.sessions.specs.Saying.{PutsSo, Says, Stays};
+ghost use Rattle.sessions.specs.Saying.{PutsSo, SaysToLine, Stays};
 ghost use Rattle.sessions.specs.Told.{known_to, HasShown, IsUnshown, ShowsLast};
 ghost use Rattle.sessions.specs.Turns.{IsForgotten, IsFoundNear, IsQueried, IsRouted, IsTabled};
 
@@ -12,7 +12,7 @@ use crate::queries::asking::{ask, copy_shown, look_shown};
 use crate::queries::finding::{near_shown, table_shown};
 use crate::queries::walking::{route_shown, route_supposed};
 use crate::session::seeing::{learn_version, version_now, wait_until};
-use crate::session::sessions::{OpenGroup, Purpose, Session};
+use crate::session::sessions::{Purpose, Session, SessionGroup};
 use crate::session::supposing::query_supposed;
 use crate::told::supposed::tell_forgotten;
 use crate::told::telling::{tell_fault, tell_refusal, tell_reply, tell_state, tell_version};
@@ -153,7 +153,7 @@ impl<N: Naming> Session<N> {
         out: &mut CountedWriter<'_, W>,
     ) -> Result<(), Failed>
         requires { self.old.group ≡ None }
-        ensures told { OnOk result (Says (C.copying copies.now) N.origin line self.old self.new W.contents out.old out.new) }
+        ensures told { OnOk result (SaysToLine (C.copying copies.now) N.origin line self.old self.new W.contents out.old out.new) }
         ensures begins { IsPrefix (known_to self.old.place) (known_to self.new.place) }
         ensures fails { OnlyWriterFails result out.old out.new }
     {
@@ -161,12 +161,12 @@ impl<N: Naming> Session<N> {
             Line::Ignored => Ok(()),
             Line::Quit => Ok(()),
             Line::Begin => {
-                self.group = Some(OpenGroup::new(alloc, Purpose::ToCarryOut));
+                self.group = Some(SessionGroup::new(alloc, Purpose::ToCarryOut));
                 Ok(())
             }
             Line::Suppose => {
                 self.supposed = None;
-                self.group = Some(OpenGroup::new(alloc, Purpose::ToSuppose));
+                self.group = Some(SessionGroup::new(alloc, Purpose::ToSuppose));
                 Ok(())
             }
             Line::End => tell_fault(out, Code::BadLine),
@@ -197,7 +197,7 @@ impl<N: Naming> Session<N> {
         line: Line,
         out: &mut CountedWriter<'_, W>,
     ) -> Result<(), Failed>
-        ensures told { OnOk result (Says (C.copying copies.now) N.origin line self.old self.new W.contents out.old out.new) }
+        ensures told { OnOk result (SaysToLine (C.copying copies.now) N.origin line self.old self.new W.contents out.old out.new) }
         ensures begins { IsPrefix (known_to self.old.place) (known_to self.new.place) }
         ensures fails { OnlyWriterFails result out.old out.new }
     {
@@ -208,7 +208,7 @@ impl<N: Naming> Session<N> {
             self.group = Some(group.with(line));
             return Ok(());
         }
-        let OpenGroup { purpose, draft } = group;
+        let SessionGroup { purpose, draft } = group;
         match purpose {
             Purpose::ToCarryOut => self.end_carried(desk, copies, draft, out),
             Purpose::ToSuppose => self.end_supposed(alloc, desk, draft, out),

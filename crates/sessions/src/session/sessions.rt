@@ -38,30 +38,30 @@ pub(crate) enum Purpose {
 
 /// A group that has begun and not ended: what is to become of it, and what its lines said so far.
 #[derive(Drop)]
-pub(crate) struct OpenGroup {
+pub(crate) struct SessionGroup {
     pub(crate) purpose: Purpose,
     pub(crate) draft: Draft,
 }
 
-impl OpenGroup {
+impl SessionGroup {
     /// No line so far.
-    pub(crate) fn new(alloc: Global, purpose: Purpose) -> OpenGroup
+    pub(crate) fn new(alloc: Global, purpose: Purpose) -> SessionGroup
         ensures purpose { result.purpose ≡ purpose }
         ensures draft { IsDraft no_draft result.draft }
     {
-        OpenGroup {
+        SessionGroup {
             purpose,
             draft: Draft::new(alloc),
         }
     }
 
     /// With one line more, which doesn't end it.
-    pub(crate) fn with(self, line: Line) -> OpenGroup
+    pub(crate) fn with(self, line: Line) -> SessionGroup
         ensures purpose { result.purpose ≡ self.purpose }
         ensures draft { (draft : Drafted) → IsDraft draft self.draft → IsDraft (with_line draft line) result.draft }
     {
-        let OpenGroup { purpose, draft } = self;
-        OpenGroup {
+        let SessionGroup { purpose, draft } = self;
+        SessionGroup {
             purpose,
             draft: draft.with(line),
         }
@@ -76,7 +76,7 @@ pub struct Session<N: Naming> {
     pub(crate) place: Option<Place<N>>,
     pub(crate) last: Option<Accepted>,
     pub(crate) receipts: Option<Front>,
-    pub(crate) group: Option<OpenGroup>,
+    pub(crate) group: Option<SessionGroup>,
     pub(crate) supposed: Option<Supposed>,
     ghost of_desk: { ForSome last (λ accepted. (claim_of accepted).origin ≡ N.origin) },
     ghost receipts_of_desk: { ForSome receipts (λ front. front.origin ≡ N.origin) },

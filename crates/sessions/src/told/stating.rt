@@ -2,7 +2,7 @@
 ghost use Rattle.std.specs.Prelude.{◌++◌};
 ghost use lib.Chars.{codes};
 ghost use Rattle.printing.specs.Writers.{Puts};
-ghost use Rattle.sessions.specs.Stated.{named, working_word, versions_part, waiting_part, journal_part, life_part, threads_part, arcs_part, served_part, state_line, state_or_refusal};
+ghost use Rattle.sessions.specs.Stated.{named_number, working_word, versions_part, waiting_part, journal_part, life_part, threads_part, arcs_part, served_part, state_line, state_or_refusal};
 
 use desk::{DeskState, Working};
 use printing::{CountedWriter, Failed, put_number, put_refusal};
@@ -15,7 +15,7 @@ fn put_named<W: Write>(
     word: &[u8],
     number: u64,
 ) -> Result<(), Failed>
-    ensures { Puts W.contents (named word.now number) result out.old out.new }
+    ensures { Puts W.contents (named_number word.now number) result out.old out.new }
 {
     out.write_all(word)?;
     put_number(out, number)

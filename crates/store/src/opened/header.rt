@@ -11,15 +11,15 @@ ghost use Rattle.store.specs.Opening.{header_from};
 
 use disk::{Disk, length_of};
 use pagereader::read_page;
-use pages::{Format, Gate, Header, PAGE_SIZE, decode_header, format_of, gate_of, has_magic};
+use pages::{Format, GateByte, Header, PAGE_SIZE, decode_header, format_of, gate_of, has_magic};
 use roadnet::Refusal;
 
 fn is_open(page: &[u8; PAGE_SIZE]) -> bool
     ensures { result ≡ is_open page.now }
 {
     match gate_of(page) {
-        Gate::Open => true,
-        Gate::Closed => false,
+        GateByte::Open => true,
+        GateByte::Closed => false,
     }
 }
 

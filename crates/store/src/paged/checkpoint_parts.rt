@@ -3,7 +3,7 @@ ghost use Rattle.std.specs.Prelude.{◌≡◌, ◌≢◌, ◌≤◌, ◌↔◌, 
 ghost use Rattle.disk.specs.Contents.{Only};
 ghost use Rattle.roadnet.specs.declared.refusals.Refusal.TheVariants.{Device as device};
 ghost use Rattle.store.specs.Checkpointing.{MayRefuseCheckpoint};
-ghost use Rattle.store.specs.Durable.{told_by, going_of, begun_by, parts_of, has_all_checked};
+ghost use Rattle.store.specs.Durable.{told_by, going_of, begun_by, begun_progress, has_all_checked};
 ghost use Rattle.store.specs.Going.{part_by, progress_by, unchecked_by, slot_by, epoch_by};
 ghost use Rattle.store.specs.PagedCalls.{KeepsDurable, TellsFailures, RefusesCheckpoint, KeepsStanding, KeepsAsTold, LeavesFor, StaysFor};
 
@@ -62,12 +62,12 @@ impl<D: Disk> Paged<D> {
         requires some { 1 ≤ pages }
         requires few { pages ≤ 64 }
         ensures keeps { KeepsDurable self.old self.new }
-        ensures answers { IfOk result (λ part. part ≡ part_by (parts_of self.old) pages) }
-        ensures going { OnOk result (going_of self.new ≡ progress_by (parts_of self.old) pages) }
-        ensures unchecked { OnOk result (self.new.found.unchecked ≡ unchecked_by (parts_of self.old) self.old.found.unchecked pages) }
+        ensures answers { IfOk result (λ part. part ≡ part_by (begun_progress self.old) pages) }
+        ensures going { OnOk result (going_of self.new ≡ progress_by (begun_progress self.old) pages) }
+        ensures unchecked { OnOk result (self.new.found.unchecked ≡ unchecked_by (begun_progress self.old) self.old.found.unchecked pages) }
         ensures works { OnOk result (self.new.broken ≡ false) }
-        ensures slot { OnOk result (self.new.found.slot ≡ slot_by (parts_of self.old) self.old.found.slot pages) }
-        ensures epoch { OnOk result (self.new.found.epoch ≡ epoch_by (parts_of self.old) self.old.found.epoch pages) }
+        ensures slot { OnOk result (self.new.found.slot ≡ slot_by (begun_progress self.old) self.old.found.slot pages) }
+        ensures epoch { OnOk result (self.new.found.epoch ≡ epoch_by (begun_progress self.old) self.old.found.epoch pages) }
         ensures refused { IfErr result (λ refusal. refusal ≡ device) }
         ensures tells { TellsFailures result self.old self.new }
         ensures kept { OnErr result ((told_by self.new ≡ told_by self.old) × (going_of self.new ≡ going_of self.old)) }
@@ -106,12 +106,12 @@ impl<D: Disk> Paged<D> {
         // If no checkpoint is going and no page is unchecked, nothing is changed, not even on the disk.
         ensures nothing { self.old.broken ≡ false → has_all_checked self.old ≡ true → (result ≡ Ok (Part.Done self.old.found.version)) × (self.new ≡ self.old) }
         // Otherwise this many more pages are written, or all that are left, and only what was committed since is unchecked.
-        ensures answers { has_all_checked self.old ≡ false → IfOk result (λ part. part ≡ part_by (parts_of self.old) pages) }
-        ensures going { has_all_checked self.old ≡ false → OnOk result (going_of self.new ≡ progress_by (parts_of self.old) pages) }
-        ensures unchecked { has_all_checked self.old ≡ false → OnOk result (self.new.found.unchecked ≡ unchecked_by (parts_of self.old) self.old.found.unchecked pages) }
+        ensures answers { has_all_checked self.old ≡ false → IfOk result (λ part. part ≡ part_by (begun_progress self.old) pages) }
+        ensures going { has_all_checked self.old ≡ false → OnOk result (going_of self.new ≡ progress_by (begun_progress self.old) pages) }
+        ensures unchecked { has_all_checked self.old ≡ false → OnOk result (self.new.found.unchecked ≡ unchecked_by (begun_progress self.old) self.old.found.unchecked pages) }
         // Once it is done, the other slot is current, with the next epoch.
-        ensures slot { has_all_checked self.old ≡ false → OnOk result (self.new.found.slot ≡ slot_by (parts_of self.old) self.old.found.slot pages) }
-        ensures epoch { has_all_checked self.old ≡ false → OnOk result (self.new.found.epoch ≡ epoch_by (parts_of self.old) self.old.found.epoch pages) }
+        ensures slot { has_all_checked self.old ≡ false → OnOk result (self.new.found.slot ≡ slot_by (begun_progress self.old) self.old.found.slot pages) }
+        ensures epoch { has_all_checked self.old ≡ false → OnOk result (self.new.found.epoch ≡ epoch_by (begun_progress self.old) self.old.found.epoch pages) }
         ensures works { OnOk result (self.new.broken ≡ false) }
         ensures refuses { RefusesCheckpoint result self.old self.new }
         ensures tells { TellsFailures result self.old self.new }

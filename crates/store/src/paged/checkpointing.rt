@@ -3,7 +3,7 @@ ghost use Rattle.std.specs.Prelude.{◌≡◌, ◌≢◌, ◌+◌, ◌↔◌, tr
 ghost use Rattle.disk.specs.Contents.{Only};
 ghost use Rattle.roadnet.specs.declared.refusals.Refusal.TheVariants.{Device as device};
 ghost use Rattle.pages.specs.Layout.{other};
-ghost use Rattle.store.specs.Durable.{told_by, going_of, parts_of, has_all_checked};
+ghost use Rattle.store.specs.Durable.{told_by, going_of, begun_progress, has_all_checked};
 ghost use Rattle.store.specs.PagedCalls.{KeepsDurable, TellsFailures, RefusesCheckpoint, KeepsStanding, KeepsAsTold, LeavesFor, StaysFor};
 
 use crate::paged::state::Paged;
@@ -17,9 +17,9 @@ impl<D: Disk> Paged<D> {
         requires works { self.old.broken ≡ false }
         requires going { IsSome self.old.going }
         ensures keeps { KeepsDurable self.old self.new }
-        ensures answers { IfOk result (λ version. version ≡ (parts_of self.old).version) }
+        ensures answers { IfOk result (λ version. version ≡ (begun_progress self.old).version) }
         ensures going { OnOk result (going_of self.new ≡ None) }
-        ensures unchecked { OnOk result (self.new.found.unchecked ≡ (parts_of self.old).committed) }
+        ensures unchecked { OnOk result (self.new.found.unchecked ≡ (begun_progress self.old).committed) }
         ensures works { OnOk result (self.new.broken ≡ false) }
         ensures slot { OnOk result (self.new.found.slot ≡ other self.old.found.slot) }
         ensures epoch { OnOk result (self.new.found.epoch ≡ self.old.found.epoch + 1) }
@@ -57,9 +57,9 @@ impl<D: Disk> Paged<D> {
         ensures keeps { KeepsDurable self.old self.new }
         // If no checkpoint is going and no page is unchecked, nothing is changed, not even on the disk.
         ensures nothing { self.old.broken ≡ false → has_all_checked self.old ≡ true → (result ≡ Ok self.old.found.version) × (self.new ≡ self.old) }
-        ensures answers { IfOk result (λ version. version ≡ (parts_of self.old).version) }
+        ensures answers { IfOk result (λ version. version ≡ (begun_progress self.old).version) }
         ensures going { OnOk result (going_of self.new ≡ None) }
-        ensures unchecked { OnOk result (self.new.found.unchecked ≡ (parts_of self.old).committed) }
+        ensures unchecked { OnOk result (self.new.found.unchecked ≡ (begun_progress self.old).committed) }
         ensures works { OnOk result (self.new.broken ≡ false) }
         // Otherwise, at Ok, the other slot is current, with the next epoch.
         ensures slot { has_all_checked self.old ≡ false → OnOk result (self.new.found.slot ≡ other self.old.found.slot) }

@@ -2,9 +2,9 @@
 ghost use Rattle.std.specs.Prelude.{◌≡◌, ◌≤◌, false, length, IfSome};
 ghost use Rattle.std.proofs.Props.{props};
 ghost use Rattle.pages.specs.declared.content.Format.TheVariants.{Two as two};
-ghost use Rattle.storefile.specs.Standing.{HasFitNumbers};
+ghost use Rattle.storefile.specs.Standing.{HasFitStoreNumbers};
 ghost use Rattle.store.specs.Resting.{IsAtRest};
-ghost use Rattle.store.specs.Going.{FitsStore, GoesOn};
+ghost use Rattle.store.specs.Going.{FitsStore, DraftGoesOn};
 
 use crate::opened::found::Found;
 use crate::paged::going::GoingCheckpoint;
@@ -22,10 +22,10 @@ pub struct Paged<D: Disk> {
     pub(crate) broken: bool,
     /// The checkpoint that is going.
     pub(crate) going: Option<GoingCheckpoint>,
-    ghost numbers: { HasFitNumbers found.header found.epoch found.version found.next_sequence found.unchecked },
+    ghost numbers: { HasFitStoreNumbers found.header found.epoch found.version found.next_sequence found.unchecked },
     ghost today: { found.header.format ≡ two },
     ghost arcs_from: { found.header.arcs ≤ length found.network.arcs },
     ghost rests: { broken ≡ false → D.honest disk → IsAtRest (D.content disk) (D.left disk) found.header },
     ghost fits: { IfSome going (λ g. FitsStore found.header found.slot found.epoch found.version found.next_sequence found.unchecked g.next g.committed) } by { Prim.hlevel props },
-    ghost goes_on: { broken ≡ false → D.honest disk → ∥ IfSome going (λ g. GoesOn (D.content disk) found.header g.next g.frozen g.committed found.network found.version found.next_sequence) ∥₁ },
+    ghost goes_on: { broken ≡ false → D.honest disk → ∥ IfSome going (λ g. DraftGoesOn (D.content disk) found.header g.next g.frozen g.committed found.network found.version found.next_sequence) ∥₁ },
 }

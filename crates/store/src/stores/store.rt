@@ -11,7 +11,7 @@ ghost use Rattle.store.specs.Committing.{alone};
 ghost use Rattle.store.specs.Checkpointing.{refusal_of_checkpoint, MayRefuseCheckpoint};
 ghost use Rattle.pages.specs.Layout.{other, slot_pages};
 ghost use Rattle.store.specs.Going.{part_by, progress_by, slot_by, epoch_by, unchecked_by};
-ghost use Rattle.store.specs.State.{CameTidy, WhileTidy, HasCommittedNothing, HasRoom, HasCheckpointPages, IsDurable, IsDurableOrAfter, HasTold, told, is_calm, checkpoint_of, has_all_checked};
+ghost use Rattle.store.specs.State.{CameTidy, WhileTidy, HasCommittedNothing, HasRoom, HasCheckpointPages, IsDurable, IsDurableOrAfter, HasTold, told, is_calm, going_checkpoint_of, has_none_unchecked};
 
 use crate::paged::parts::Part;
 use crate::paged::state::Paged;
@@ -176,14 +176,14 @@ impl<D: Disk> Store<D> {
         ensures same_in_flight { self.new.in_flight ≡ self.old.in_flight }
         ensures sizes { (self.new.journal_pages ≡ self.old.journal_pages) × (self.new.checkpoint_pages ≡ self.old.checkpoint_pages) }
         // If no checkpoint is going and no page is unchecked, nothing is changed, not even on the disk.
-        ensures nothing { self.old.broken ≡ false → has_all_checked self.old ≡ true → (result ≡ Ok (Part.Done self.old.version)) × (self.new ≡ self.old) }
+        ensures nothing { self.old.broken ≡ false → has_none_unchecked self.old ≡ true → (result ≡ Ok (Part.Done self.old.version)) × (self.new ≡ self.old) }
         // Otherwise this many more pages are written, or all that are left, and only what was committed since is unchecked.
-        ensures answers { has_all_checked self.old ≡ false → IfOk result (λ part. part ≡ part_by (checkpoint_of self.old) pages) }
-        ensures going { has_all_checked self.old ≡ false → OnOk result (self.new.going ≡ progress_by (checkpoint_of self.old) pages) }
-        ensures unchecked { has_all_checked self.old ≡ false → OnOk result (self.new.unchecked ≡ unchecked_by (checkpoint_of self.old) self.old.unchecked pages) }
+        ensures answers { has_none_unchecked self.old ≡ false → IfOk result (λ part. part ≡ part_by (going_checkpoint_of self.old) pages) }
+        ensures going { has_none_unchecked self.old ≡ false → OnOk result (self.new.going ≡ progress_by (going_checkpoint_of self.old) pages) }
+        ensures unchecked { has_none_unchecked self.old ≡ false → OnOk result (self.new.unchecked ≡ unchecked_by (going_checkpoint_of self.old) self.old.unchecked pages) }
         // Once all are written, the slot is current, with an epoch above the one before.
-        ensures slot { has_all_checked self.old ≡ false → OnOk result (self.new.slot ≡ slot_by (checkpoint_of self.old) self.old.slot pages) }
-        ensures epoch { has_all_checked self.old ≡ false → OnOk result (self.new.epoch ≡ epoch_by (checkpoint_of self.old) self.old.epoch pages) }
+        ensures slot { has_none_unchecked self.old ≡ false → OnOk result (self.new.slot ≡ slot_by (going_checkpoint_of self.old) self.old.slot pages) }
+        ensures epoch { has_none_unchecked self.old ≡ false → OnOk result (self.new.epoch ≡ epoch_by (going_checkpoint_of self.old) self.old.epoch pages) }
         ensures works { OnOk result (self.new.broken ≡ false) }
         // It refuses if the store is broken. If it is not, it may refuse only for lack of memory when a checkpoint would begin, or because the disk failed
         // in this call.
@@ -224,11 +224,11 @@ impl<D: Disk> Store<D> {
         ensures same_in_flight { self.new.in_flight ≡ self.old.in_flight }
         ensures sizes { (self.new.journal_pages ≡ self.old.journal_pages) × (self.new.checkpoint_pages ≡ self.old.checkpoint_pages) }
         // If no checkpoint is going and no page is unchecked, nothing is changed, not even on the disk.
-        ensures nothing { self.old.broken ≡ false → has_all_checked self.old ≡ true → (result ≡ Ok self.old.version) × (self.new ≡ self.old) }
-        ensures answers { IfOk result (λ version. version ≡ (checkpoint_of self.old).version) }
+        ensures nothing { self.old.broken ≡ false → has_none_unchecked self.old ≡ true → (result ≡ Ok self.old.version) × (self.new ≡ self.old) }
+        ensures answers { IfOk result (λ version. version ≡ (going_checkpoint_of self.old).version) }
         ensures going { OnOk result (self.new.going ≡ None) }
-        ensures unchecked { OnOk result (self.new.unchecked ≡ (checkpoint_of self.old).committed) }
-        ensures slot { has_all_checked self.old ≡ false → OnOk result ((self.new.slot ≡ other self.old.slot) × (self.new.epoch ≡ self.old.epoch + 1)) }
+        ensures unchecked { OnOk result (self.new.unchecked ≡ (going_checkpoint_of self.old).committed) }
+        ensures slot { has_none_unchecked self.old ≡ false → OnOk result ((self.new.slot ≡ other self.old.slot) × (self.new.epoch ≡ self.old.epoch + 1)) }
         ensures works { OnOk result (self.new.broken ≡ false) }
         // It refuses if the store is broken. If it is not, it may refuse only for lack of memory when a checkpoint would begin, or because the disk failed
         // in this call.

@@ -2,7 +2,7 @@ use Rattle.std.proofs.Common.{◌≡◌, ◌≤◌, ◌<◌, ◌+◌, ◌/◌, [
 use Rattle.std.specs.FinMap.{empty}
 use Rattle.std.specs.Global.{Vec}
 use Rattle.std.proofs.lemmas.List.Elements.{Contains-get_or}
-use Rattle.frontier.specs.Live.{AreDead, AreDealt, AreKept, IsLeastLive, all_queued, queued}
+use Rattle.frontier.specs.Live.{AreDead, AreEntriesDealt, AreEntriesKept, IsLeastLive, all_queued, queued}
 use Rattle.frontier.proofs.Bags.{AreKept-cleared, all_queued-dead, all_queued-dealt, all_queued-empty, bag_nodes, least_below, least_from, queued-least}
 use Rattle.frontier.proofs.lazy.deal.Goals as goal
 
@@ -57,7 +57,7 @@ returns-clause-same c =
     let b = c.deal_all-dealt.new.bag in
     let is : c.deref-2.result.now ≡ c.args.bag.now.items = c.deref-2.ensures.value ∙ ap (λ (l : Vec (ℕ × ℕ)). l.items) c.swap.ensures.y_after in
     let width : n.delta ≡ ring.delta = c.deal_all-dealt.ensures.width ∙ (c.begin_at.ensures.width ∙ c.empty.ensures.fresh.wide) in
-    let dealt : AreDealt t ring.delta bag (length bag) n.lists.items b.items = subst (λ (l : List (ℕ × ℕ)). AreDealt t ring.delta l (length l) n.lists.items b.items) is (subst (λ (d : ℕ). AreDealt t d c.deref-2.result.now (length c.deref-2.result.now) n.lists.items b.items) width c.in_ok-dealt.ensures.dealt) in
+    let dealt : AreEntriesDealt t ring.delta bag (length bag) n.lists.items b.items = subst (λ (l : List (ℕ × ℕ)). AreEntriesDealt t ring.delta l (length l) n.lists.items b.items) is (subst (λ (d : ℕ). AreEntriesDealt t d c.deref-2.result.now (length c.deref-2.result.now) n.lists.items b.items) width c.in_ok-dealt.ensures.dealt) in
     rw width (all_queued-dealt t ring.delta ring.lists.items n.lists.items bag b.items c.requires.none dealt)
 
 pub returns-clause-some : goal.returns-clause-some
@@ -73,8 +73,8 @@ returns-clause-some c over =
     let wide : c.empty.new.self.delta ≡ ring.delta = c.empty.ensures.fresh.wide in
     let last : begun.last ≡ c.in-Some.least / ring.delta = c.begin_at.ensures.last ∙ ap (λ (d : ℕ). c.in-Some.least / d) (c.from.ensures ∙ (c.delta.ensures.value ∙ wide)) in
     let width : n.delta ≡ ring.delta = c.deal_all-dealt.ensures.width ∙ (c.begin_at.ensures.width ∙ wide) in
-    let dealt : AreDealt t ring.delta bag (length bag) n.lists.items b.items = subst (λ (l : List (ℕ × ℕ)). AreDealt t ring.delta l (length l) n.lists.items b.items) is (subst (λ (d : ℕ). AreDealt t d c.deref-2.result.now (length c.deref-2.result.now) n.lists.items b.items) width c.in_ok-dealt.ensures.dealt) in
-    let kept : AreKept t ring.delta c.reach.result n.lists.items b.items = subst (λ (d : ℕ). AreKept t d c.reach.result n.lists.items b.items) width c.deal_all-dealt.ensures.kept in
+    let dealt : AreEntriesDealt t ring.delta bag (length bag) n.lists.items b.items = subst (λ (l : List (ℕ × ℕ)). AreEntriesDealt t ring.delta l (length l) n.lists.items b.items) is (subst (λ (d : ℕ). AreEntriesDealt t d c.deref-2.result.now (length c.deref-2.result.now) n.lists.items b.items) width c.in_ok-dealt.ensures.dealt) in
+    let kept : AreEntriesKept t ring.delta c.reach.result n.lists.items b.items = subst (λ (d : ℕ). AreEntriesKept t d c.reach.result n.lists.items b.items) width c.deal_all-dealt.ensures.kept in
     let to : c.reach.result ≡ min (c.in-Some.least / ring.delta + length begun.lists.items) 18446744073709551615 = subst (λ (k : ℕ). c.reach.result ≡ min (k + length begun.lists.items) 18446744073709551615) last c.reach.ensures in
     let near : c.in-Some.least / ring.delta < c.reach.result = least_below t ring.delta c.args.bound.now c.in-Some.least (length begun.lists.items) c.reach.result bag c.requires.kept.rest least_is begun.some to in
     let over' : queued ring.delta n.lists.items t ≡ empty = subst (λ (d : ℕ). queued d n.lists.items t ≡ empty) width over in

@@ -1,7 +1,7 @@
 use Rattle.std.proofs.Common.{◌≡◌, ◌≤◌, ◌<◌, ◌+◌, ◌/◌, ℕ, List, Some, Option, length, get_or, refl, sym, subst, ◌∙◌, arith}
 use Rattle.std.proofs.lemmas.List.Elements.{Contains-get_or}
 use Rattle.relax.specs.Values.{value_at}
-use Rattle.frontier.specs.Live.{AreDealt, AreKept}
+use Rattle.frontier.specs.Live.{AreEntriesDealt, AreEntriesKept}
 use Rattle.frontier.proofs.Bags.{AreDealt-none, AreDealt-step, AreKept-none, IsNowhere-next}
 use Rattle.frontier.proofs.Live.{has_live}
 use Rattle.frontier.proofs.lazy.deal_all.Goals as goal
@@ -38,10 +38,10 @@ loop-entry-preserved c =
     let ring = c.deal_one.new.ring in
     let ensures = c.deal_one.ensures in
     let bag = c.deal_one.new.bag in
-    let dealt : AreDealt c.args.tentative.now l.ring.delta c.args.entries.now (l.entry-index + 1) ring.lists.items bag.items = AreDealt-step c.args.tentative.now l.ring.delta c.args.entries.now l.entry-index l.ring.lists.items l.bag.items l.invariant.dealt (0, 0) ring.lists.items bag.items (omega arith) c.in_ok-deal_one.ensures.dealt in
+    let dealt : AreEntriesDealt c.args.tentative.now l.ring.delta c.args.entries.now (l.entry-index + 1) ring.lists.items bag.items = AreDealt-step c.args.tentative.now l.ring.delta c.args.entries.now l.entry-index l.ring.lists.items l.bag.items l.invariant.dealt (0, 0) ring.lists.items bag.items (omega arith) c.in_ok-deal_one.ensures.dealt in
     record {
-      kept = subst (λ (d : ℕ). AreKept c.args.tentative.now d c.args.bound ring.lists.items bag.items) (sym ensures.width) ensures.kept;
-      dealt = subst (λ (d : ℕ). AreDealt c.args.tentative.now d c.args.entries.now (l.entry-index + 1) ring.lists.items bag.items) (sym ensures.width) dealt;
+      kept = subst (λ (d : ℕ). AreEntriesKept c.args.tentative.now d c.args.bound ring.lists.items bag.items) (sym ensures.width) ensures.kept;
+      dealt = subst (λ (d : ℕ). AreEntriesDealt c.args.tentative.now d c.args.entries.now (l.entry-index + 1) ring.lists.items bag.items) (sym ensures.width) dealt;
       width = ensures.width ∙ l.invariant.width;
       last = ensures.last ∙ l.invariant.last;
       size = ensures.size ∙ l.invariant.size;

@@ -1,6 +1,6 @@
 use Rattle.std.proofs.Common.{◌≡◌, ◌≤◌, ◌<◌, ◌/◌, ◌%◌, ◌++◌, ◌∷◌, [], ℕ, List, Option, length, subst, ap, ◌∙◌}
 use Rattle.frontier.specs.Entries.{IsAdded, entries_at}
-use Rattle.frontier.specs.Live.{AreKept, IsDealt}
+use Rattle.frontier.specs.Live.{AreEntriesKept, IsDealt}
 use Rattle.frontier.proofs.Bags.{AreKept-bagged, AreKept-listed, AreKept-same, IsDealt-bagged, IsDealt-listed, OnOk-map, on_result}
 use Rattle.frontier.proofs.lazy.put.Goals as goal
 
@@ -13,7 +13,7 @@ returns-then-is_near-clause-kept c t kept can =
     on_result c.add.result
     (IsAdded ring.lists.items new ((c.args.value / ring.delta) % length ring.lists.items) e)
     ((p : ℕ) → entries_at new p ≡ entries_at ring.lists.items p)
-    (AreKept t ring.delta c.args.bound new c.args.bag.now.items)
+    (AreEntriesKept t ring.delta c.args.bound new c.args.bag.now.items)
     c.add.ensures.ok c.add.ensures.err
     (λ added. AreKept-listed t ring.delta c.args.bound ring.lists.items c.args.bag.now.items kept e can.node can.above can.nowhere new ((c.args.value / ring.delta) % length ring.lists.items) added near)
     (λ same. AreKept-same t ring.delta c.args.bound ring.lists.items c.args.bag.now.items kept new same)

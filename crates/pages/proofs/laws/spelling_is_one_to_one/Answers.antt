@@ -1,7 +1,7 @@
 use Rattle.std.proofs.Common.{◌≡◌, refl, sym, ◌∙◌}
 use Rattle.pages.specs.Gates.{gate_of, gate_byte}
-use Rattle.pages.specs.declared.gate.Gate.{Gate}
-use Rattle.pages.specs.declared.gate.Gate.TheVariants.{Open, Closed}
+use Rattle.pages.specs.declared.gate.GateByte.{GateByte}
+use Rattle.pages.specs.declared.gate.GateByte.TheVariants.{Open, Closed}
 use Rattle.pages.proofs.Headers.{header_read}
 use Rattle.pages.proofs.Places.{arcs_read, words_read}
 use Rattle.pages.proofs.Heads.{head_once}
@@ -30,7 +30,7 @@ returns-clause-one_content c = record {
   one = record_once;
 }
 
-read_back : (gate : Gate) → gate_of (gate_byte gate) ≡ gate
+read_back : (gate : GateByte) → gate_of (gate_byte gate) ≡ gate
 read_back Open = refl
 read_back Closed = refl
 

@@ -8,7 +8,7 @@ use Rattle.history.specs.Origins.{Origin}
 use Rattle.dimacs.specs.Counts.{reader_of}
 use Rattle.printing.specs.Counting.{writer_of}
 use Rattle.session_lines.specs.declared.reading.LastLine.TheVariants.{Taken}
-use Rattle.sessions.specs.Turns.{Serves, IsKept}
+use Rattle.sessions.specs.Turns.{Serves, IsSessionKept}
 use Rattle.server_files.specs.Copied.{copies_in}
 use Rattle.program.proofs.serve_jobs.serve_disk.Goals as goal
 
@@ -42,7 +42,7 @@ returns-clause-answered g c =
     IfSome (g.I.Read.remaining (reader_of c.args.reader.now))
     (λ text.
     Serves (copies_in c.args.folder) Taken origin text (g.I.Read.remaining (reader_of c.serve_store.new.reader)) (g.W.Write.contents (writer_of c.args.writer.now)) (g.W.Write.contents (writer_of c.serve_store.new.writer))
-    (IsKept ended.closed.whole ended.closed.shown) ended.outcome))
+    (IsSessionKept ended.closed.whole ended.closed.shown) ended.outcome))
     (rw c.new-copies.ensures at c.serve_store.ensures.answered)
     c.serve_store.ensures.origin
 

@@ -8,18 +8,18 @@ use Rattle.printing.specs.declared.failed.Failed.TheVariants.{Code}
 use Rattle.session_lines.specs.declared.reading.LastLine.{LastLine}
 use Rattle.session_lines.specs.declared.reading.LastLine.TheVariants.{Taken}
 use Rattle.session_lines.specs.Copying.{Copying}
-use Rattle.sessions.specs.Turns.{Serves, Standing}
+use Rattle.sessions.specs.Turns.{Serves, SessionStanding}
 use Rattle.program.proofs.serve_jobs.serve_store.Goals as goal
 
 -- what holds of a session as far as it came, so does what follows from it
-served : {X : Type 0} (copying : Copying) (last_line : LastLine) (origin : Origin) (text : List ℕ) (left old new : Option (List ℕ)) (P Q : Standing → Type 0) (result : Result X Failed)
-    → ((last : Standing) → P last → Q last) → Serves copying last_line origin text left old new P result → Serves copying last_line origin text left old new Q result
+served : {X : Type 0} (copying : Copying) (last_line : LastLine) (origin : Origin) (text : List ℕ) (left old new : Option (List ℕ)) (P Q : SessionStanding → Type 0) (result : Result X Failed)
+    → ((last : SessionStanding) → P last → Q last) → Serves copying last_line origin text left old new P result → Serves copying last_line origin text left old new Q result
 served copying last_line origin text left old new P Q (Ok x) also s = (s.0, s.1, also s.0 s.2, s.3)
 served copying last_line origin text left old new P Q (Err (Code Read)) also s = (s.0, s.1, also s.0 s.2, s.3)
 served copying last_line origin text left old new P Q (Err other) also s = tt
 
-served_of : {X : Type 0} (copying : Copying) (last_line : LastLine) (origin : Origin) (known left old new : Option (List ℕ)) (P Q : Standing → Type 0) (result : Result X Failed)
-    → ((last : Standing) → P last → Q last) → IfSome known (λ text. Serves copying last_line origin text left old new P result) → IfSome known (λ text. Serves copying last_line origin text left old new Q result)
+served_of : {X : Type 0} (copying : Copying) (last_line : LastLine) (origin : Origin) (known left old new : Option (List ℕ)) (P Q : SessionStanding → Type 0) (result : Result X Failed)
+    → ((last : SessionStanding) → P last → Q last) → IfSome known (λ text. Serves copying last_line origin text left old new P result) → IfSome known (λ text. Serves copying last_line origin text left old new Q result)
 served_of copying last_line origin None left old new P Q result also s = tt
 served_of copying last_line origin (Some text) left old new P Q result also s = served copying last_line origin text left old new P Q result also s
 

@@ -8,7 +8,7 @@ use Rattle.snapshot.specs.Groups.{IsSnapshotOf}
 use Rattle.deltastep.specs.Reach.{IsReach as IsReachOf, IsReachTo}
 use Rattle.deltastep.specs.declared.rows.known.NodeDistance.{NodeDistance}
 use Rattle.querytexts.specs.declared.reaches.Reach.{Reach}
-use Rattle.querytexts.specs.Reach.{AreGroupsFor, IsReach, center_of}
+use Rattle.querytexts.specs.Reach.{AreGroupsFor, IsReachOfText, center_of}
 use Rattle.querytexts.proofs.Reached.{found_from, found_to, most}
 use Rattle.querytexts.proofs.reaches.find.Goals as goal
 
@@ -30,8 +30,8 @@ returns-in-From g c =
     let groups = c.in_ok-groups.groups in
     let of = subst (λ (r : Reach). AreGroupsFor net r groups) c.in-From.is c.in_ok-groups.ensures in
     let found = c.reach_in.ensures.reach in
-    IfOk-weaker c.reach_in.result (λ (told : Vec NodeDistance). (n : Net) → IsSnapshotOf n groups → IsReachOf n c.in-From.source (unwrap_or c.args.limit most) told.items) (λ (told : Vec NodeDistance). IsReach net c.args.reach c.args.limit told.items)
-    (λ told has. subst (λ (r : Reach). IsReach net r c.args.limit told.items) (sym c.in-From.is) (found_from net c.in-From.source c.args.limit groups told.items c.requires.network of has)) (rw c.unwrap_or-limit.ensures at found)
+    IfOk-weaker c.reach_in.result (λ (told : Vec NodeDistance). (n : Net) → IsSnapshotOf n groups → IsReachOf n c.in-From.source (unwrap_or c.args.limit most) told.items) (λ (told : Vec NodeDistance). IsReachOfText net c.args.reach c.args.limit told.items)
+    (λ told has. subst (λ (r : Reach). IsReachOfText net r c.args.limit told.items) (sym c.in-From.is) (found_from net c.in-From.source c.args.limit groups told.items c.requires.network of has)) (rw c.unwrap_or-limit.ensures at found)
 
 pub returns : goal.returns
 returns g c =
@@ -39,5 +39,5 @@ returns g c =
     let groups = c.in_ok-groups.groups in
     let of = subst (λ (r : Reach). AreGroupsFor net r groups) c.in-To.is c.in_ok-groups.ensures in
     let found = c.reached_in.ensures.reached in
-    IfOk-weaker c.reached_in.result (λ (told : Vec NodeDistance). (n : Net) → IsNetwork n → IsSnapshotOf (reversed n) groups → IsReachTo n c.in-To.target (unwrap_or c.args.limit most) told.items) (λ (told : Vec NodeDistance). IsReach net c.args.reach c.args.limit told.items)
-    (λ told has. subst (λ (r : Reach). IsReach net r c.args.limit told.items) (sym c.in-To.is) (found_to net c.in-To.target c.args.limit groups told.items c.requires.network of has)) (rw c.unwrap_or-limit.ensures at found)
+    IfOk-weaker c.reached_in.result (λ (told : Vec NodeDistance). (n : Net) → IsNetwork n → IsSnapshotOf (reversed n) groups → IsReachTo n c.in-To.target (unwrap_or c.args.limit most) told.items) (λ (told : Vec NodeDistance). IsReachOfText net c.args.reach c.args.limit told.items)
+    (λ told has. subst (λ (r : Reach). IsReachOfText net r c.args.limit told.items) (sym c.in-To.is) (found_to net c.in-To.target c.args.limit groups told.items c.requires.network of has)) (rw c.unwrap_or-limit.ensures at found)

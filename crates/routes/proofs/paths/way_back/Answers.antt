@@ -3,7 +3,7 @@ use Rattle.std.proofs.lemmas.Grind.{common_steps}
 use Rattle.std.proofs.lemmas.List.{length_push}
 use Rattle.roadnet.specs.Net.{IsArcAmong}
 use Rattle.roadnet.proofs.Apart.{arc_among}
-use Rattle.routes.specs.Paths.{IsDone, IsLooked}
+use Rattle.routes.specs.Paths.{IsNodeDone, AreLegsLooked}
 use Rattle.routes.specs.declared.paths.Step.{Step}
 use Rattle.routes.proofs.Backward.{IsAt, unmet, arcs_of, start_node, begun, taken, given_back, never_stuck, ended, unmet-set}
 use Rattle.routes.proofs.paths.way_back.Goals as goal
@@ -21,14 +21,14 @@ loop-node-init g c =
 pub returns-in_default-clause-none : goal.returns-in_default-clause-none
 returns-in_default-clause-none g c known =
     let empty : c.loop-node.steps.items ≡ [] = grind (arith, common_steps, c.in_default.ensures.items, c.in_default.ensures.len) in
-    let done = subst (λ (met : List Bool). IsDone c.args.network.now (g.V.Known.values c.args.values.now) met c.loop-node.node) c.deref.ensures.value c.in-None.ensures.none in
+    let done = subst (λ (met : List Bool). IsNodeDone c.args.network.now (g.V.Known.values c.args.values.now) met c.loop-node.node) c.deref.ensures.value c.in-None.ensures.none in
     never_stuck c.args.network.now c.args.back.now (g.V.Known.values c.args.values.now) c.args.source c.args.target c.args.far c.nodes.ensures.network c.requires.target c.requires.there c.loop-node.met.items c.loop-node.node c.loop-node.looked c.loop-node.steps.items
     c.loop-node.invariant empty c.loop-node-test.true done known
 
 pub loop-node-preserved : goal.loop-node-preserved
 loop-node-preserved g c =
     let last : c.loop-node.steps.items ≡ c.pop.new.self.items ++ c.in-Some-pop.step ∷ [] = c.in-Some-pop.ensures.items in
-    let done = subst (λ (met : List Bool). IsDone c.args.network.now (g.V.Known.values c.args.values.now) met c.loop-node.node) c.deref.ensures.value c.in-None.ensures.none in
+    let done = subst (λ (met : List Bool). IsNodeDone c.args.network.now (g.V.Known.values c.args.values.now) met c.loop-node.node) c.deref.ensures.value c.in-None.ensures.none in
     given_back c.args.network.now c.args.back.now (g.V.Known.values c.args.values.now) c.args.source c.args.target c.args.far c.nodes.ensures.network c.requires.target c.requires.there c.loop-node.met.items c.loop-node.node c.loop-node.looked c.pop.new.self.items c.in-Some-pop.step c.in-Some-arc.arc
     (subst (λ (steps : List Step). IsAt c.args.network.now c.args.back.now (g.V.Known.values c.args.values.now) c.args.source c.args.target c.args.far c.loop-node.met.items c.loop-node.node c.loop-node.looked steps) last c.loop-node.invariant) c.loop-node-test.true done (cc c.in-Some-arc.ensures)
 
@@ -58,7 +58,7 @@ loop-node-preserved-in-Some g c =
     let step : Step = found.step in
     let one_more : c.push.new.self.items ≡ c.loop-node.steps.items ++ step ∷ [] = grind (arith, common_steps, c.push.ensures.items) in
     let new : get_or c.loop-node.met.items found.arc.tail false ≡ false = subst (λ (met : List Bool). get_or met found.arc.tail false ≡ false) c.deref.ensures.value c.in-Some.ensures.new in
-    let looked = subst (λ (met : List Bool). IsLooked c.args.network.now c.args.back.now (g.V.Known.values c.args.values.now) met c.loop-node.node found.step.looked) c.deref.ensures.value c.in-Some.ensures.looked in
+    let looked = subst (λ (met : List Bool). AreLegsLooked c.args.network.now c.args.back.now (g.V.Known.values c.args.values.now) met c.loop-node.node found.step.looked) c.deref.ensures.value c.in-Some.ensures.looked in
     let longer = taken c.args.network.now c.args.back.now (g.V.Known.values c.args.values.now) c.args.source c.args.target c.args.far c.nodes.ensures.network c.requires.target c.requires.there c.loop-node.met.items c.loop-node.node c.loop-node.looked c.loop-node.steps.items step found.arc
     c.loop-node.invariant c.loop-node-test.true c.in-Some.ensures.tight new looked in
     rw one_more longer

@@ -1,13 +1,13 @@
 use Rattle.std.proofs.Common.{rules, ◌∷◌}
-use Rattle.session_lines.specs.declared.words.Word.TheVariants.{WithTwo}
-use Rattle.session_lines.specs.Spelled.{spelling}
+use Rattle.session_lines.specs.declared.words.SessionWord.TheVariants.{WithTwo}
+use Rattle.session_lines.specs.Spelled.{session_spelling}
 use Rattle.session_lines.proofs.Grouped.{two_range}
 use Rattle.session_lines.proofs.Worded.{two_reads, two_fault}
 use Rattle.session_lines.proofs.lines.read_two.Goals as goal
 use Rattle.session_lines.proofs.lines.read_two.Goals.{then-is_refused-via-then-is_refused, then-is_refused-via-else-is_refused+then-is_refused-2}
 
 pub returns-in_default : goal.returns-in_default
-returns-in_default c row are = c.bad_line.ensures (spelling (WithTwo c.args.word) ∷ row) (two_fault c.args.word row c.args.numbers are c.in_default.ensures)
+returns-in_default c row are = c.bad_line.ensures (session_spelling (WithTwo c.args.word) ∷ row) (two_fault c.args.word row c.args.numbers are c.in_default.ensures)
 
 pub returns-then-is_refused : goal.returns-then-is_refused
 returns-then-is_refused c row are =

@@ -1,7 +1,7 @@
 use Rattle.std.proofs.Common.{◌≡◌, ◌∙◌, ℕ, ◌+◌, List, length, Ok, ap, refl, sym, arith}
 use Rattle.pages.specs.declared.content.Format.{Format}
 use Rattle.pages.specs.declared.content.Format.TheVariants.{One, Two}
-use Rattle.pages.specs.Formats.{number_of}
+use Rattle.pages.specs.Formats.{format_number_of}
 use Rattle.roadnet.specs.Net.{Net}
 use Rattle.storefile.specs.StoreFile.{page, Stored, StandsIn, groups_of, next_sequence}
 use Rattle.storefile.specs.Judging.{opened_in, refusal_in}
@@ -27,8 +27,8 @@ returns-clause-at_most_one c = λ format file net net' v v' q q' a b.
 
 pub returns-clause-one_format : goal.returns-clause-one_format
 returns-clause-one_format c = λ file net net' v v' q q' a b.
-    let one : number_of a.0.header.format ≡ number_of b.0.header.format = sym (format_found (page file 0) a.0.header a.1.is.header) ∙ format_found (page file 0) b.0.header b.1.is.header in
-    let both : number_of One ≡ number_of Two = ap number_of (sym a.2) ∙ one ∙ ap number_of b.2 in
+    let one : format_number_of a.0.header.format ≡ format_number_of b.0.header.format = sym (format_found (page file 0) a.0.header a.1.is.header) ∙ format_found (page file 0) b.0.header b.1.is.header in
+    let both : format_number_of One ≡ format_number_of Two = ap format_number_of (sym a.2) ∙ one ∙ ap format_number_of b.2 in
     absurd (omega (arith, both))
 
 pub returns-clause-not_refused : goal.returns-clause-not_refused

@@ -1,7 +1,7 @@
 use Rattle.std.specs.Prelude.{⊤, IfSome, vec_items}
 use Rattle.std.proofs.Common.{rules, ◌≡◌, inl, refl}
 use Rattle.dimacs.specs.Commanded.{group_text}
-use Rattle.dimacs.specs.Texts.{Reads}
+use Rattle.dimacs.specs.Texts.{ReadsText}
 use Rattle.printing.specs.declared.failed.Failed.TheVariants.{Code}
 use Rattle.printing.specs.Counting.{writer_of}
 use Rattle.storetexts.specs.Applied.{IsRefusedApply}
@@ -57,7 +57,7 @@ pub returns-in-Err-of_text-clause-refused : goal.returns-in-Err-of_text-clause-r
 returns-in-Err-of_text-clause-refused g c =
     let known = g.S.Text.bytes c.args.commands.now in
     let source = g.S.Text.source c.read_commands.new.text in
-    fault_of vec_items 0 c.read_commands.result c.in-Err-of_text.failed c.in-Err-of_text.ensures (λ r. IfSome known (λ text. Reads group_text text source r)) c.read_commands.ensures.read
+    fault_of vec_items 0 c.read_commands.result c.in-Err-of_text.failed c.in-Err-of_text.ensures (λ r. IfSome known (λ text. ReadsText group_text text source r)) c.read_commands.ensures.read
     (λ failed. IfSome known (λ text. IsRefusedApply (g.D.Disk.honest c.args.disk) (g.D.Disk.content c.args.disk) text source failed))
     (fault_known _ _ _ c.in-Ok.ensures.opened known source)
 
@@ -65,33 +65,33 @@ pub returns-clause-applied : goal.returns-clause-applied
 returns-clause-applied g c honest pages slots net version stands =
     let list : c.deref.result.now ≡ c.in-Ok-of_text.groups.items = search rules in
     let applies = c.apply_groups.ensures.applies.applied (c.in-Ok.ensures.came honest pages slots net version stands) net version (c.in-Ok.ensures.begins honest pages slots net version stands) in
-    applied_known net version c.in-Ok-of_text.groups.items _ c.apply_groups.result.0 _ _ _ _ _ (rw list at applies) (value_of vec_items 0 c.read_commands.result c.in-Ok-of_text.groups c.in-Ok-of_text.ensures (λ r. IfSome (g.S.Text.bytes c.args.commands.now) (λ text. Reads group_text text (g.S.Text.source c.read_commands.new.text) r)) c.read_commands.ensures.read)
+    applied_known net version c.in-Ok-of_text.groups.items _ c.apply_groups.result.0 _ _ _ _ _ (rw list at applies) (value_of vec_items 0 c.read_commands.result c.in-Ok-of_text.groups c.in-Ok-of_text.ensures (λ r. IfSome (g.S.Text.bytes c.args.commands.now) (λ text. ReadsText group_text text (g.S.Text.source c.read_commands.new.text) r)) c.read_commands.ensures.read)
 
 pub returns-clause-cut_off : goal.returns-clause-cut_off
 returns-clause-cut_off g c honest pages slots net version stands =
     let list : c.deref.result.now ≡ c.in-Ok-of_text.groups.items = search rules in
     let applies = c.apply_groups.ensures.applies.cut_off (c.in-Ok.ensures.came honest pages slots net version stands) net version (c.in-Ok.ensures.begins honest pages slots net version stands) in
-    cut_off_known net version c.in-Ok-of_text.groups.items _ c.apply_groups.result.0 _ _ _ _ _ (rw list at applies) (value_of vec_items 0 c.read_commands.result c.in-Ok-of_text.groups c.in-Ok-of_text.ensures (λ r. IfSome (g.S.Text.bytes c.args.commands.now) (λ text. Reads group_text text (g.S.Text.source c.read_commands.new.text) r)) c.read_commands.ensures.read)
+    cut_off_known net version c.in-Ok-of_text.groups.items _ c.apply_groups.result.0 _ _ _ _ _ (rw list at applies) (value_of vec_items 0 c.read_commands.result c.in-Ok-of_text.groups c.in-Ok-of_text.ensures (λ r. IfSome (g.S.Text.bytes c.args.commands.now) (λ text. ReadsText group_text text (g.S.Text.source c.read_commands.new.text) r)) c.read_commands.ensures.read)
 
 pub returns-clause-any_moment : goal.returns-clause-any_moment
 returns-clause-any_moment g c honest pages slots net version stands =
     let list : c.deref.result.now ≡ c.in-Ok-of_text.groups.items = search rules in
     let moments = c.apply_groups.ensures.applies.any_moment (c.in-Ok.ensures.came honest pages slots net version stands) net version (c.in-Ok.ensures.begins honest pages slots net version stands) in
     known_since g.D.Disk c.args.disk c.in-Ok.ledger.disk (λ content. g.met.D.Disk.only_now c.args.disk content honest)
-    (c.in-Ok.ensures.disk.same honest) c.apply_groups.result.1 net version c.in-Ok-of_text.groups.items _ _ (value_of vec_items 0 c.read_commands.result c.in-Ok-of_text.groups c.in-Ok-of_text.ensures (λ r. IfSome (g.S.Text.bytes c.args.commands.now) (λ text. Reads group_text text (g.S.Text.source c.read_commands.new.text) r)) c.read_commands.ensures.read) (rw list at moments)
+    (c.in-Ok.ensures.disk.same honest) c.apply_groups.result.1 net version c.in-Ok-of_text.groups.items _ _ (value_of vec_items 0 c.read_commands.result c.in-Ok-of_text.groups c.in-Ok-of_text.ensures (λ r. IfSome (g.S.Text.bytes c.args.commands.now) (λ text. ReadsText group_text text (g.S.Text.source c.read_commands.new.text) r)) c.read_commands.ensures.read) (rw list at moments)
 
 pub returns-clause-told : goal.returns-clause-told
 returns-clause-told g c =
     let list : c.deref.result.now ≡ c.in-Ok-of_text.groups.items = search rules in
     let tells = c.apply_groups.ensures.applies.told in
-    told_known _ _ c.in-Ok.ledger.machine c.in-Ok.ensures.opened c.in-Ok-of_text.groups.items c.apply_groups.result.0 _ _ _ _ (rw list at tells) (value_of vec_items 0 c.read_commands.result c.in-Ok-of_text.groups c.in-Ok-of_text.ensures (λ r. IfSome (g.S.Text.bytes c.args.commands.now) (λ text. Reads group_text text (g.S.Text.source c.read_commands.new.text) r)) c.read_commands.ensures.read)
+    told_known _ _ c.in-Ok.ledger.machine c.in-Ok.ensures.opened c.in-Ok-of_text.groups.items c.apply_groups.result.0 _ _ _ _ (rw list at tells) (value_of vec_items 0 c.read_commands.result c.in-Ok-of_text.groups c.in-Ok-of_text.ensures (λ r. IfSome (g.S.Text.bytes c.args.commands.now) (λ text. ReadsText group_text text (g.S.Text.source c.read_commands.new.text) r)) c.read_commands.ensures.read)
 
 pub returns-clause-refused : goal.returns-clause-refused
 returns-clause-refused g c =
     let known = g.S.Text.bytes c.args.commands.now in
     let source = g.S.Text.source c.read_commands.new.text in
     cut_off_refused_known (g.D.Disk.honest c.args.disk) (g.D.Disk.content c.args.disk) c.in-Ok.ensures.opened c.in-Ok-of_text.groups.items c.apply_groups.result.0 known source
-    (value_of vec_items 0 c.read_commands.result c.in-Ok-of_text.groups c.in-Ok-of_text.ensures (λ r. IfSome known (λ text. Reads group_text text source r)) c.read_commands.ensures.read) c.apply_groups.ensures.applies.refused
+    (value_of vec_items 0 c.read_commands.result c.in-Ok-of_text.groups c.in-Ok-of_text.ensures (λ r. IfSome known (λ text. ReadsText group_text text source r)) c.read_commands.ensures.read) c.apply_groups.ensures.applies.refused
 
 pub returns-clause-codes : goal.returns-clause-codes
 returns-clause-codes g c = kind_cut_off c.apply_groups.result.0 c.apply_groups.ensures.applies.refused

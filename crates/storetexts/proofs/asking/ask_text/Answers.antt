@@ -1,7 +1,7 @@
 use Rattle.std.proofs.Common.{rules, ◌≡◌, ◌∙◌, ap, sym, subst, refl}
 use Rattle.std.specs.Prelude.{IfSome, vec_items}
 use Rattle.dimacs.specs.Pairs.{p2p_text}
-use Rattle.dimacs.specs.Texts.{Reads}
+use Rattle.dimacs.specs.Texts.{ReadsText}
 use Rattle.disk.specs.Contents.{Only}
 use Rattle.printing.specs.declared.done.Done.{Done}
 use Rattle.storetexts.specs.Asked.{IsRefusedAsk}
@@ -31,7 +31,7 @@ returns-in-Err-of_text-clause-refused g c =
     let nodes : c.nodes.result ≡ c.in-Ok.store.network.nodes = search rules in
     let known = g.S.Text.bytes c.args.p2p.now in
     let source = g.S.Text.source c.read_p2p-read.new.text in
-    fault_of vec_items 0 c.read_p2p-read.result c.in-Err-of_text.failed c.in-Err-of_text.ensures (λ r. IfSome known (λ text. Reads (p2p_text c.nodes.result) text source r)) c.read_p2p-read.ensures.read
+    fault_of vec_items 0 c.read_p2p-read.result c.in-Err-of_text.failed c.in-Err-of_text.ensures (λ r. IfSome known (λ text. ReadsText (p2p_text c.nodes.result) text source r)) c.read_p2p-read.ensures.read
     (λ failed. IfSome known (λ text. IsRefusedAsk (g.D.Disk.honest c.args.disk) (g.D.Disk.content c.args.disk) text source failed))
     (fault_known _ _ c.in-Ok.store.network c.in-Ok.store.version c.nodes.result c.in-Ok.ensures.stands nodes known source)
 
@@ -43,7 +43,7 @@ returns-clause-answered g c =
     let known = g.S.Text.bytes c.args.p2p.now in
     let source = g.S.Text.source c.read_p2p-read.new.text in
     asked_of _ _ c.in-Ok.store.network c.in-Ok.store.version c.nodes.result c.in-Ok.ensures.stands nodes c.args.routes c.ask_opened.result.0 known source c.in-Ok-of_text.pairs.items _ _
-    (value_of vec_items 0 c.read_p2p-read.result c.in-Ok-of_text.pairs c.in-Ok-of_text.ensures (λ r. IfSome known (λ text. Reads (p2p_text c.nodes.result) text source r)) c.read_p2p-read.ensures.read) (rw list at answers)
+    (value_of vec_items 0 c.read_p2p-read.result c.in-Ok-of_text.pairs c.in-Ok-of_text.ensures (λ r. IfSome known (λ text. ReadsText (p2p_text c.nodes.result) text source r)) c.read_p2p-read.ensures.read) (rw list at answers)
 
 pub returns-clause-refused : goal.returns-clause-refused
 returns-clause-refused g c =
@@ -52,7 +52,7 @@ returns-clause-refused g c =
     let source = g.S.Text.source c.read_p2p-read.new.text in
     refused_known (g.D.Disk.honest c.args.disk) (g.D.Disk.content c.args.disk) c.in-Ok.store.network c.in-Ok.store.version c.nodes.result c.in-Ok.ensures.stands nodes
     c.ask_opened.result.0 known source c.in-Ok-of_text.pairs.items
-    (value_of vec_items 0 c.read_p2p-read.result c.in-Ok-of_text.pairs c.in-Ok-of_text.ensures (λ r. IfSome known (λ text. Reads (p2p_text c.nodes.result) text source r)) c.read_p2p-read.ensures.read) c.ask_opened.ensures.answers.refused
+    (value_of vec_items 0 c.read_p2p-read.result c.in-Ok-of_text.pairs c.in-Ok-of_text.ensures (λ r. IfSome known (λ text. ReadsText (p2p_text c.nodes.result) text source r)) c.read_p2p-read.ensures.read) c.ask_opened.ensures.answers.refused
 
 pub returns-clause-codes : goal.returns-clause-codes
 returns-clause-codes g c = kind_unanswered c.ask_opened.result.0 c.ask_opened.ensures.answers.refused

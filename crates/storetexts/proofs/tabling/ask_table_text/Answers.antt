@@ -1,10 +1,10 @@
 use Rattle.std.proofs.Common.{rules, ◌≡◌, ◌∙◌, ap, sym, subst, refl}
 use Rattle.std.specs.Prelude.{IfSome, vec_items}
 use Rattle.dimacs.specs.Landmarks.{nodes_text}
-use Rattle.dimacs.specs.Texts.{Reads}
+use Rattle.dimacs.specs.Texts.{ReadsText}
 use Rattle.disk.specs.Contents.{Only}
 use Rattle.printing.specs.declared.done.Done.{Done}
-use Rattle.storetexts.specs.Asked.{IsRefusedTable}
+use Rattle.storetexts.specs.Asked.{IsRefusedStoreTable}
 use Rattle.storetexts.proofs.Judged.{opening_counts}
 use Rattle.storetexts.proofs.Meanwhile.{counts_code}
 use Rattle.storetexts.proofs.Answered.{counts_unanswered}
@@ -38,8 +38,8 @@ returns-in-Err-of_text-clause-refused g c =
     let first = g.P.Text.bytes c.args.sources.now in
     let second = g.Q.Text.bytes c.args.targets.now in
     let from_source = g.P.Text.source c.read_nodes-sources_read.new.text in
-    fault_of vec_items 0 c.read_nodes-sources_read.result c.in-Err-of_text.failed c.in-Err-of_text.ensures (λ r. IfSome first (λ text. Reads (nodes_text c.nodes-count.result) text from_source r)) c.read_nodes-sources_read.ensures.read
-    (λ failed. IfSome first (λ from. IfSome second (λ to. IsRefusedTable (g.D.Disk.honest c.args.disk) (g.D.Disk.content c.args.disk) from to from_source (g.Q.Text.source c.args.targets.now) failed)))
+    fault_of vec_items 0 c.read_nodes-sources_read.result c.in-Err-of_text.failed c.in-Err-of_text.ensures (λ r. IfSome first (λ text. ReadsText (nodes_text c.nodes-count.result) text from_source r)) c.read_nodes-sources_read.ensures.read
+    (λ failed. IfSome first (λ from. IfSome second (λ to. IsRefusedStoreTable (g.D.Disk.honest c.args.disk) (g.D.Disk.content c.args.disk) from to from_source (g.Q.Text.source c.args.targets.now) failed)))
     (source_fault_known _ _ c.in-Ok.store.network c.in-Ok.store.version c.nodes-count.result c.in-Ok.ensures.stands nodes first second from_source (g.Q.Text.source c.args.targets.now))
 
 pub returns-in-Err-of_text-2-clause-refused : goal.returns-in-Err-of_text-2-clause-refused
@@ -49,9 +49,9 @@ returns-in-Err-of_text-2-clause-refused g c =
     let second = g.Q.Text.bytes c.args.targets.now in
     let from_source = g.P.Text.source c.read_nodes-sources_read.new.text in
     let to_source = g.Q.Text.source c.read_nodes-targets_read.new.text in
-    let read = value_of vec_items 0 c.read_nodes-sources_read.result c.in-Ok-of_text.from c.in-Ok-of_text.ensures (λ r. IfSome first (λ text. Reads (nodes_text c.nodes-count.result) text from_source r)) c.read_nodes-sources_read.ensures.read in
-    fault_of vec_items 1 c.read_nodes-targets_read.result c.in-Err-of_text-2.failed c.in-Err-of_text-2.ensures (λ r. IfSome second (λ text. Reads (nodes_text c.nodes-count.result) text to_source r)) c.read_nodes-targets_read.ensures.read
-    (λ failed. IfSome first (λ from. IfSome second (λ to. IsRefusedTable (g.D.Disk.honest c.args.disk) (g.D.Disk.content c.args.disk) from to from_source to_source failed)))
+    let read = value_of vec_items 0 c.read_nodes-sources_read.result c.in-Ok-of_text.from c.in-Ok-of_text.ensures (λ r. IfSome first (λ text. ReadsText (nodes_text c.nodes-count.result) text from_source r)) c.read_nodes-sources_read.ensures.read in
+    fault_of vec_items 1 c.read_nodes-targets_read.result c.in-Err-of_text-2.failed c.in-Err-of_text-2.ensures (λ r. IfSome second (λ text. ReadsText (nodes_text c.nodes-count.result) text to_source r)) c.read_nodes-targets_read.ensures.read
+    (λ failed. IfSome first (λ from. IfSome second (λ to. IsRefusedStoreTable (g.D.Disk.honest c.args.disk) (g.D.Disk.content c.args.disk) from to from_source to_source failed)))
     (λ fault said. target_fault_known _ _ c.in-Ok.store.network c.in-Ok.store.version c.nodes-count.result c.in-Ok.ensures.stands nodes c.in-Ok-of_text.from.items first second from_source to_source fault read said)
 
 pub returns-clause-answered : goal.returns-clause-answered
@@ -65,8 +65,8 @@ returns-clause-answered g c =
     let from_source = g.P.Text.source c.read_nodes-sources_read.new.text in
     let to_source = g.Q.Text.source c.read_nodes-targets_read.new.text in
     asked_of _ _ c.in-Ok.store.network c.in-Ok.store.version c.nodes-count.result c.in-Ok.ensures.stands nodes c.in-Ok-of_text.from.items c.in-Ok-of_text-2.to.items _ _ c.table_of.result.0 first second from_source to_source
-    (value_of vec_items 0 c.read_nodes-sources_read.result c.in-Ok-of_text.from c.in-Ok-of_text.ensures (λ r. IfSome first (λ text. Reads (nodes_text c.nodes-count.result) text from_source r)) c.read_nodes-sources_read.ensures.read)
-    (value_of vec_items 1 c.read_nodes-targets_read.result c.in-Ok-of_text-2.to c.in-Ok-of_text-2.ensures (λ r. IfSome second (λ text. Reads (nodes_text c.nodes-count.result) text to_source r)) c.read_nodes-targets_read.ensures.read)
+    (value_of vec_items 0 c.read_nodes-sources_read.result c.in-Ok-of_text.from c.in-Ok-of_text.ensures (λ r. IfSome first (λ text. ReadsText (nodes_text c.nodes-count.result) text from_source r)) c.read_nodes-sources_read.ensures.read)
+    (value_of vec_items 1 c.read_nodes-targets_read.result c.in-Ok-of_text-2.to c.in-Ok-of_text-2.ensures (λ r. IfSome second (λ text. ReadsText (nodes_text c.nodes-count.result) text to_source r)) c.read_nodes-targets_read.ensures.read)
     (rw (from, to) at answers)
 
 pub returns-clause-refused : goal.returns-clause-refused
@@ -78,8 +78,8 @@ returns-clause-refused g c =
     let to_source = g.Q.Text.source c.read_nodes-targets_read.new.text in
     refused_known (g.D.Disk.honest c.args.disk) (g.D.Disk.content c.args.disk) c.in-Ok.store.network c.in-Ok.store.version c.nodes-count.result c.in-Ok.ensures.stands nodes
     c.in-Ok-of_text.from.items c.in-Ok-of_text-2.to.items c.table_of.result.0 first second from_source to_source
-    (value_of vec_items 0 c.read_nodes-sources_read.result c.in-Ok-of_text.from c.in-Ok-of_text.ensures (λ r. IfSome first (λ text. Reads (nodes_text c.nodes-count.result) text from_source r)) c.read_nodes-sources_read.ensures.read)
-    (value_of vec_items 1 c.read_nodes-targets_read.result c.in-Ok-of_text-2.to c.in-Ok-of_text-2.ensures (λ r. IfSome second (λ text. Reads (nodes_text c.nodes-count.result) text to_source r)) c.read_nodes-targets_read.ensures.read)
+    (value_of vec_items 0 c.read_nodes-sources_read.result c.in-Ok-of_text.from c.in-Ok-of_text.ensures (λ r. IfSome first (λ text. ReadsText (nodes_text c.nodes-count.result) text from_source r)) c.read_nodes-sources_read.ensures.read)
+    (value_of vec_items 1 c.read_nodes-targets_read.result c.in-Ok-of_text-2.to c.in-Ok-of_text-2.ensures (λ r. IfSome second (λ text. ReadsText (nodes_text c.nodes-count.result) text to_source r)) c.read_nodes-targets_read.ensures.read)
     c.table_of.ensures.answers.refused
 
 pub returns-clause-codes : goal.returns-clause-codes

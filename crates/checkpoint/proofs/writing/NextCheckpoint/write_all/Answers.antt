@@ -1,8 +1,8 @@
 use Rattle.std.proofs.Common.{inl, inr, ⊎_elim, ℕ, List, subst}
 use Rattle.std.proofs.lemmas.Result.{on_ok_weaker, err_from_is_err_and}
-use Rattle.disk.specs.Calling.{Writes}
+use Rattle.disk.specs.Calling.{WritesDisk}
 use Rattle.pagereader.proofs.Calls.{unsynced_weaker, unsynced_fails, unsynced_then_writes}
-use Rattle.checkpoint.specs.Writing.{Draft, head_of, IsSlotShut, IsSlotWhole, IsDraftShutOrWhole}
+use Rattle.checkpoint.specs.Writing.{Draft, draft_head_of, IsSlotShut, IsSlotWhole, IsDraftShutOrWhole}
 use Rattle.checkpoint.proofs.SlotPages.{then_shut, then_whole}
 use Rattle.checkpoint.proofs.writing.NextCheckpoint.write_all.Goals as goal
 
@@ -15,8 +15,8 @@ returns-clause-content g c h =
     let d = c.args.self.now in
     on_ok_weaker c.finish.result
     (λ whole.
-    then_whole header c.args.self.now.slot (head_of c.args.self.now net) net old mid (g.D.Disk.content c.finish.new.disk) (c.in_ok-write_parts.ensures.content h)
-    (subst (λ (x : Draft). IsSlotWhole header x.slot (head_of x net) net mid (g.D.Disk.content c.finish.new.disk)) c.in_ok-write_parts.ensures.written whole))
+    then_whole header c.args.self.now.slot (draft_head_of c.args.self.now net) net old mid (g.D.Disk.content c.finish.new.disk) (c.in_ok-write_parts.ensures.content h)
+    (subst (λ (x : Draft). IsSlotWhole header x.slot (draft_head_of x net) net mid (g.D.Disk.content c.finish.new.disk)) c.in_ok-write_parts.ensures.written whole))
     (c.finish.ensures.content (c.write_parts.ensures.writes.honest.1 h))
 
 pub returns-in_err-write_parts-clause-writes : goal.returns-in_err-write_parts-clause-writes
@@ -36,7 +36,7 @@ returns-clause-writes g c =
     let P : List ℕ → Type 0 = IsDraftShutOrWhole header d net old in
     unsynced_then_writes g.D.Disk P (IsDraftShutOrWhole header d net mid) _ c.finish.result c.args.disk.now c.write_parts.new.disk c.finish.new.disk
     (unsynced_weaker g.D.Disk (IsSlotShut header d.slot old) P _ c.args.disk.now c.write_parts.new.disk c.in_ok-write_parts.ensures.writes (λ x shut. inl shut))
-    (subst (λ (x : Draft). Writes g.D.Disk (IsDraftShutOrWhole header x net mid) c.finish.result c.write_parts.new.disk c.finish.new.disk) c.in_ok-write_parts.ensures.written c.finish.ensures.writes)
+    (subst (λ (x : Draft). WritesDisk g.D.Disk (IsDraftShutOrWhole header x net mid) c.finish.result c.write_parts.new.disk c.finish.new.disk) c.in_ok-write_parts.ensures.written c.finish.ensures.writes)
     (λ h x way. ⊎_elim
     (λ still. inl (then_shut header d.slot old mid x (c.in_ok-write_parts.ensures.content h) still))
-    (λ whole. inr (then_whole header d.slot (head_of d net) net old mid x (c.in_ok-write_parts.ensures.content h) whole)) way)
+    (λ whole. inr (then_whole header d.slot (draft_head_of d net) net old mid x (c.in_ok-write_parts.ensures.content h) whole)) way)

@@ -1,7 +1,7 @@
 use Rattle.std.proofs.Common.{◌≡◌, ◌∙◌, List, All, subst}
 use Rattle.snapshot.specs.declared.legs.Leg.{Leg}
 use Rattle.snapshot.specs.declared.legs.Part.TheVariants.{Light, Heavy}
-use Rattle.deltastep.specs.Repair.{IsLooked}
+use Rattle.deltastep.specs.Repair.{IsNodeLooked}
 use Rattle.deltastep.proofs.Phases.{on_true, on_false}
 use Rattle.deltastep.proofs.Looking.{heads_to, All-looked_on, AreTailsLooked-parts}
 use Rattle.deltastep.proofs.Thinning.{no_distance}
@@ -22,5 +22,5 @@ returns-clause-looked g c =
     let light = All-looked_on groups t (E c.queue_heads.new.buckets) queue c.legs.result.now c.in_ok-queue_heads-2.ensures.keeps (on_true c.in_ok-queue_heads.field-0 _ c.if-not-branch.false c.in_ok-queue_heads.ensures.looked) in
     let heavy = on_true c.in_ok-queue_heads-2.field-0 _ c.if-not-branch-2.false c.in_ok-queue_heads-2.ensures.looked in
     AreTailsLooked-parts groups c.args.back.now c.args.row.now t queue c.args.node
-    (subst (λ (l : List Leg). All (λ (leg : Leg). IsLooked groups t queue leg.head) l) c.legs.ensures.value light)
-    (subst (λ (l : List Leg). All (λ (leg : Leg). IsLooked groups t queue leg.head) l) c.legs-2.ensures.value heavy)
+    (subst (λ (l : List Leg). All (λ (leg : Leg). IsNodeLooked groups t queue leg.head) l) c.legs.ensures.value light)
+    (subst (λ (l : List Leg). All (λ (leg : Leg). IsNodeLooked groups t queue leg.head) l) c.legs-2.ensures.value heavy)

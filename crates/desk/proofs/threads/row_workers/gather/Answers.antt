@@ -5,7 +5,7 @@ use Rattle.std.proofs.lemmas.List.Elements.{All-push}
 use Rattle.rows.specs.declared.landmark_rows.Row.{Row}
 use Rattle.rows.specs.Views.{IsRowAt}
 use Rattle.rows.proofs.LandmarkRows.{landmarks_more}
-use Rattle.desk.specs.Shares.{AreDealt}
+use Rattle.desk.specs.Shares.{AreSharesDealt}
 use Rattle.desk.proofs.Dealt.{all_left, one_left_out, first_left}
 use Rattle.desk.proofs.threads.row_workers.gather.Goals as goal
 
@@ -26,5 +26,5 @@ loop-place-preserved g c =
       count = search rules;
       room = search rules;
       each = subst (All (IsRowAt job.version job.network.now)) (sym pushed) (All-push (IsRowAt job.version job.network.now) old row before.each c.next_row.ensures.right);
-      dealt = subst (λ (ls : List ℕ). AreDealt job.version job.network.now job.workers ls (map (λ (queue : VecDeque Row Global). queue.items) c.next_row.new.parts.items)) behind c.next_row.ensures.dealt;
+      dealt = subst (λ (ls : List ℕ). AreSharesDealt job.version job.network.now job.workers ls (map (λ (queue : VecDeque Row Global). queue.items) c.next_row.new.parts.items)) behind c.next_row.ensures.dealt;
     }

@@ -4,7 +4,7 @@ use Rattle.std.specs.declared.collections.VecDeque.{VecDeque}
 use Rattle.std.proofs.lemmas.List.{length-map}
 use Rattle.desk.specs.declared.threads.last.Unbuilt.{Unbuilt}
 use Rattle.rows.specs.declared.landmark_rows.Row.{Row}
-use Rattle.desk.specs.Shares.{share_of, AreRowsOf}
+use Rattle.desk.specs.Shares.{share_of, AreRowsOfLandmarks}
 use Rattle.desk.proofs.Dealt.{dealt_by, each_made}
 use Rattle.desk.proofs.threads.row_workers.landmark_rows.Goals as goal
 
@@ -20,7 +20,7 @@ gather-requires-clause-dealt g c =
     (length-map parts (λ (queue : VecDeque Row Global). queue.items) ∙ long)
     (λ (worker : ℕ) lt.
     each_made (λ (queue : VecDeque Row Global). queue.items)
-    (λ (i : ℕ) rows. AreRowsOf job.version job.network.now (share_of job.workers i job.network.now.landmarks) rows)
+    (λ (i : ℕ) rows. AreRowsOfLandmarks job.version job.network.now (share_of job.workers i job.network.now.landmarks) rows)
     made parts all
     (λ (i : ℕ) d less.
     let inside : i < job.workers = omega arith in

@@ -3,7 +3,7 @@ use Rattle.std.proofs.lemmas.List.Elements.{Contains-get_or}
 use Rattle.frontier.specs.Entries.{TakesFirst, entries_at}
 use Rattle.std.specs.Global.{Vec}
 use Rattle.frontier.specs.Frontier.{TakesAny}
-use Rattle.frontier.specs.Live.{AreKept, live_nodes, queued}
+use Rattle.frontier.specs.Live.{AreEntriesKept, live_nodes, queued}
 use Rattle.frontier.proofs.Bags.{AreKept-fewer, AreKept-same}
 use Rattle.frontier.proofs.Live.{AreEntriesOf-taken, queued-none, queued-dead, stays, TakesAny-taken, taken_nodes}
 use Rattle.frontier.proofs.lazy.LazyRing.take_entries.Goals as goal
@@ -13,7 +13,7 @@ invariant_of-self c =
     let s = c.args.self.now in
     record {
       none = ap (λ (l : Vec (ℕ × ℕ)). l.items) c.in_default.ensures.unused ∙ s.none;
-      kept = subst (λ (w : ℕ). AreKept s.tentative w s.bound c.take.new.self.lists.items s.bag.items) (sym c.take.ensures.width) (AreKept-same s.tentative s.ring.delta s.bound s.ring.lists.items s.bag.items s.kept c.take.new.self.lists.items (λ p. ap (λ (l : Vec (Vec (ℕ × ℕ))). entries_at l.items p) c.in_default.ensures.none));
+      kept = subst (λ (w : ℕ). AreEntriesKept s.tentative w s.bound c.take.new.self.lists.items s.bag.items) (sym c.take.ensures.width) (AreKept-same s.tentative s.ring.delta s.bound s.ring.lists.items s.bag.items s.kept c.take.new.self.lists.items (λ p. ap (λ (l : Vec (Vec (ℕ × ℕ))). entries_at l.items p) c.in_default.ensures.none));
       room = omega (arith, s.room, c.in_default.ensures.last, c.take.ensures.size);
     }
 
@@ -36,7 +36,7 @@ invariant_of-self-2 c =
     let takes : TakesFirst s.ring.delta s.ring.lists.items c.take.new.self.lists.items c.in-Some.bucket c.take.new.entries.items = c.in-Some.ensures.taken in
     record {
       none = c.clear.ensures.items;
-      kept = subst (λ (w : ℕ). AreKept s.tentative w s.bound c.take.new.self.lists.items s.bag.items) (sym c.take.ensures.width) (AreKept-fewer s.tentative s.ring.delta s.bound s.ring.lists.items c.take.new.self.lists.items s.bag.items s.kept
+      kept = subst (λ (w : ℕ). AreEntriesKept s.tentative w s.bound c.take.new.self.lists.items s.bag.items) (sym c.take.ensures.width) (AreKept-fewer s.tentative s.ring.delta s.bound s.ring.lists.items c.take.new.self.lists.items s.bag.items s.kept
           (AreEntriesOf-taken s.ring.delta s.ring.last c.in-Some.bucket s.ring.lists.items c.take.new.self.lists.items s.tentative c.take.new.entries.items c.take.ensures.size s.ring.within s.kept.stand c.in-Some.ensures.far takes)
           (λ p e there. (stays s.ring.delta s.ring.last c.in-Some.bucket s.ring.lists.items c.take.new.self.lists.items s.tentative c.take.new.entries.items c.take.ensures.size s.ring.within s.kept.stand c.in-Some.ensures.far takes p e there).0));
       room = omega (arith, s.room, c.in-Some.ensures.far, c.in-Some.ensures.last, c.take.ensures.size);

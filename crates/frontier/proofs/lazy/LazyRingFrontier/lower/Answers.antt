@@ -1,6 +1,6 @@
 use Rattle.std.proofs.Common.{◌≡◌, ◌<◌, ℕ, List, Some, Option, unwrap_or, length, set, subst, sym, arith}
 use Rattle.relax.specs.Values.{value_at}
-use Rattle.frontier.specs.Live.{AreKept}
+use Rattle.frontier.specs.Live.{AreEntriesKept}
 use Rattle.frontier.proofs.Bags.{AreKept-lowered, AreKept-same, IsNowhere-lower, all_queued-lowered, is_at_most-lowered}
 use Rattle.frontier.proofs.lazy.LazyRingFrontier.lower.Goals as goal
 
@@ -11,8 +11,8 @@ invariant_of-self c =
     let same = c.in_err-put.ensures.err in
     record {
       none = s.none;
-      kept = subst (λ (w : ℕ). AreKept s.tentative w s.bound n.lists.items c.put.new.bag.items) (sym c.put.ensures.width)
-          (subst (λ (bag : List (ℕ × ℕ)). AreKept s.tentative s.ring.delta s.bound n.lists.items bag) (sym same.1)
+      kept = subst (λ (w : ℕ). AreEntriesKept s.tentative w s.bound n.lists.items c.put.new.bag.items) (sym c.put.ensures.width)
+          (subst (λ (bag : List (ℕ × ℕ)). AreEntriesKept s.tentative s.ring.delta s.bound n.lists.items bag) (sym same.1)
           (AreKept-same s.tentative s.ring.delta s.bound s.ring.lists.items s.bag.items s.kept n.lists.items same.0));
       room = omega (arith, s.room, c.put.ensures.last, c.put.ensures.size);
     }
@@ -24,15 +24,15 @@ invariant_of-self-2 c =
     let t = set s.tentative c.args.node (Some c.args.value) in
     let lower : (x : ℕ) → value_at s.tentative c.args.node ≡ Some x → c.args.value < x = λ x e. subst (λ (o : Option ℕ). c.args.value < unwrap_or o c.args.top) e (subst (λ (o : Option ℕ). c.args.value < unwrap_or o c.args.top) c.get.ensures.value (c.is_lower.ensures.lower c.if-not-is_lower.false)) in
     let within = c.requires.node.1 in
-    let before : AreKept t s.ring.delta s.bound s.ring.lists.items s.bag.items = AreKept-lowered s.tentative s.ring.delta s.bound s.ring.lists.items s.bag.items s.kept c.args.node c.args.value within lower in
-    let after : AreKept t s.ring.delta s.bound n.lists.items c.put.new.bag.items = c.put.ensures.kept t before (record {
+    let before : AreEntriesKept t s.ring.delta s.bound s.ring.lists.items s.bag.items = AreKept-lowered s.tentative s.ring.delta s.bound s.ring.lists.items s.bag.items s.kept c.args.node c.args.value within lower in
+    let after : AreEntriesKept t s.ring.delta s.bound n.lists.items c.put.new.bag.items = c.put.ensures.kept t before (record {
       node = c.requires.node.0;
       above = is_at_most-lowered s.tentative s.ring.delta s.bound s.ring.lists.items s.bag.items s.kept c.args.node c.args.value within lower;
       nowhere = IsNowhere-lower s.tentative s.ring.delta s.bound s.ring.lists.items s.bag.items s.kept c.args.node c.args.value within lower;
     }) in
     record {
       none = s.none;
-      kept = rw c.set.ensures.set (subst (λ (w : ℕ). AreKept t w s.bound n.lists.items c.put.new.bag.items) (sym c.put.ensures.width) after);
+      kept = rw c.set.ensures.set (subst (λ (w : ℕ). AreEntriesKept t w s.bound n.lists.items c.put.new.bag.items) (sym c.put.ensures.width) after);
       room = omega (arith, s.room, c.put.ensures.last, c.put.ensures.size);
     }
 

@@ -1,6 +1,6 @@
 use Rattle.std.proofs.Common.{◌≡◌, ◌∷◌, ◌++◌, ap, sym, ◌∙◌, length, true, [], refl, List, arith}
 use Rattle.history.specs.Chains.{chain, next_pen}
-use Rattle.history.specs.Entries.{accepted, acknowledged, is_endless, network_of, version_of}
+use Rattle.history.specs.Entries.{accepted, acknowledged_number, is_endless, network_opened_with, version_of}
 use Rattle.history.specs.declared.entries.Base.{Base}
 use Rattle.history.specs.declared.entries.Entry.{Entry}
 use Rattle.history.specs.declared.entries.Entry.TheVariants.{Opened}
@@ -41,7 +41,7 @@ returns-clause-base c =
     let same = ap (λ p. p.nib.key) c.of-own.ensures ∙ (sym c.of-root.ensures ∙ sym (ap (next_pen root) row.1)) in
     let log_is : chain root c.write.new.seen.log ≡ Opened base ∷ [] =
     chain_more root old c.write.new.seen.log _ c.write.ensures.written endless same ∙ ap (λ l. chain root l ++ Opened base ∷ []) row.1 in
-    (ap network_of log_is ∙ c.of.ensures, ap version_of log_is)
+    (ap network_opened_with log_is ∙ c.of.ensures, ap version_of log_is)
 
 pub returns-clause-empty : goal.returns-clause-empty
 returns-clause-empty c =
@@ -53,4 +53,4 @@ returns-clause-empty c =
     let same = ap (λ p. p.nib.key) c.of-own.ensures ∙ (sym c.of-root.ensures ∙ sym (ap (next_pen root) row.1)) in
     let log_is : chain root c.write.new.seen.log ≡ Opened base ∷ [] =
     chain_more root old c.write.new.seen.log _ c.write.ensures.written endless same ∙ ap (λ l. chain root l ++ Opened base ∷ []) row.1 in
-    (ap accepted log_is, ap acknowledged log_is)
+    (ap accepted log_is, ap acknowledged_number log_is)

@@ -1,9 +1,9 @@
 use Rattle.std.proofs.Common.{◌≡◌, ap, sym, ◌∙◌, ⊎_elim, subst, arith, List, [], ◌∷◌, ◌++◌, length}
 use Rattle.history.specs.declared.entries.Entry.{Entry}
 use Rattle.history.specs.Chains.{chain, next_pen}
-use Rattle.history.specs.Entries.{accepted, beginning, is_endless, version_of, IsOpen}
+use Rattle.history.specs.Entries.{accepted, beginning, is_endless, version_of, IsDeskOpen}
 use Rattle.history.specs.Origins.{Name, Beginning}
-use Rattle.history.specs.Rules.{head_of}
+use Rattle.history.specs.Rules.{book_head_of}
 use Rattle.history.specs.Written.{with_entry}
 use Rattle.history.proofs.Beginnings.{open_endless, open_more, count_more, origin_more, beginning_more}
 use Rattle.history.proofs.Chains.{chain_more, next_more}
@@ -22,10 +22,10 @@ invariant_of-self c =
     chain_more root old c.write.new.seen.log _ c.write.ensures.written endless same ∙ ap (λ l. chain root l ++ c.args.entry ∷ []) as_seen in
     let follows = next_more root old c.write.new.seen.log _ c.write.ensures.written endless same in
     let book = c.write.ensures.book ∙ ap (λ s. s.book) c.again-seen.ensures in (
-      subst IsOpen (sym added) (open_more before c.args.entry c.requires.endless i.0),
+      subst IsDeskOpen (sym added) (open_more before c.args.entry c.requires.endless i.0),
       omega (arith, i.1, ap (λ (l : List Entry). length (accepted l)) added, count_more before c.args.entry, c.counted-more.ensures.value),
       i.2 ∙ (sym (ap (λ o. o.version) (origin_more (record { book = c.self.inside.seen.book; pen = root }) before (c.args.entry ∷ []) i.0)) ∙ sym (ap version_of added)),
-      i.3 ∙ ap head_of (sym book),
+      i.3 ∙ ap book_head_of (sym book),
       c.new_pen-next.ensures.book ∙ sym book,
       c.new_pen-next.ensures.right,
       sym (follows ∙ ap (λ p. p.nib.key) c.of-following.ensures),

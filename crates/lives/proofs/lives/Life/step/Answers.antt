@@ -1,7 +1,7 @@
 use Rattle.std.proofs.Common.{◌∙◌, ℕ, refl, subst}
 use Rattle.std.specs.Prelude.{option_map}
 use Rattle.machine.specs.Calls.{StepsCheckpoint}
-use Rattle.keeper.specs.Parts.{told_as}
+use Rattle.keeper.specs.Parts.{told_step}
 use Rattle.lives.proofs.Failing.{told_by_part}
 use Rattle.lives.proofs.LifeKept.{life_step, moment_later}
 use Rattle.lives.proofs.lives.Life.step.Goals as goal
@@ -10,7 +10,7 @@ pub returns : goal.returns
 returns g c =
     let old = c.args.self.now.keeper in
     let new = c.checkpoint_step.new.self in
-    let told = told_as c.checkpoint_step.result in
+    let told = told_step c.checkpoint_step.result in
     record {
       does = (told, subst (λ (n : ℕ). StepsCheckpoint old.machine n told new.machine) c.number.ensures.is c.checkpoint_step.ensures.step, c.told_part.ensures);
       delta = refl;
@@ -23,5 +23,5 @@ pub invariant_of-self-clause-living : goal.invariant_of-self-clause-living
 invariant_of-self-clause-living g c =
     let old = c.args.self.now.keeper.machine in
     let new = c.checkpoint_step.new.self.machine in
-    life_step old new c.args.self.now.opened (option_map (λ view. (view.value.version, view.value.network)) c.args.self.now.aside) c.number.result (told_as c.checkpoint_step.result)
+    life_step old new c.args.self.now.opened (option_map (λ view. (view.value.version, view.value.network)) c.args.self.now.aside) c.number.result (told_step c.checkpoint_step.result)
     c.checkpoint_step.ensures.step c.args.self.now.living

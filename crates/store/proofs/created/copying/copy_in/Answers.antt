@@ -1,7 +1,7 @@
 use Rattle.std.proofs.Common.{refl, sym, subst, arith}
 use Rattle.roadnet.specs.declared.refusals.Refusal.{Refusal}
 use Rattle.storefile.specs.Standing.{Standing}
-use Rattle.store.specs.Migrating.{IsRefusedForNew, IsRefusedForOld, MayEndCopying, CountsFailure}
+use Rattle.store.specs.Migrating.{IsRefusedForNew, IsRefusedForOld, MayEndCopying, CountsCopyFailure}
 use Rattle.store.proofs.Migrated.{no_bytes, no_such_room, refused_so, all_copied, all_stand, all_new, all_parts, all_left, all_for_new, all_for_old, all_causes, all_counted, all_empty, all_same, all_honest}
 use Rattle.store.proofs.created.copying.copy_in.Goals as goal
 
@@ -14,7 +14,7 @@ returns-in-Err-with_given_room g c =
     (λ h. subst (IsRefusedForNew (g.D.Disk.content c.args.new)) why (no_bytes (g.D.Disk.content c.args.new) (omega (arith, c.in-Ok.ensures.length h))))
     (λ h. subst (IsRefusedForOld c.args.format (g.O.Disk.content c.args.old.now) c.args.room) why (no_such_room c.args.format (g.O.Disk.content c.args.old.now) x c.args.room (c.in-Ok-find.ensures.standing h) c.in-Err-with_given_room.ensures.refused.2))
     (subst MayEndCopying why refl)
-    (subst (λ (r : Refusal). CountsFailure r (g.O.Disk.failures c.args.old.now) (g.O.Disk.failures c.find.new.disk) (g.D.Disk.failures c.args.new) (g.D.Disk.failures c.length_of.new.disk)) why (c.in-Ok-find.ensures.reads.counted, c.in-Ok.ensures.reads.counted))
+    (subst (λ (r : Refusal). CountsCopyFailure r (g.O.Disk.failures c.args.old.now) (g.O.Disk.failures c.find.new.disk) (g.D.Disk.failures c.args.new) (g.D.Disk.failures c.length_of.new.disk)) why (c.in-Ok-find.ensures.reads.counted, c.in-Ok.ensures.reads.counted))
     (λ h. c.in-Ok-find.ensures.reads.same h) (λ h other. c.length_of.ensures.reads.same h) c.in-Ok-find.ensures.reads.honest c.length_of.ensures.reads.honest
 
 pub returns : goal.returns

@@ -1,6 +1,6 @@
 use Rattle.std.proofs.Common.{◌≤◌, length, ap, subst, arith}
 use Rattle.roadnet.specs.Net.{Net}
-use Rattle.store.specs.Going.{GoesOn}
+use Rattle.store.specs.Going.{DraftGoesOn}
 use Rattle.storefile.specs.Standing.{Standing}
 use Rattle.checkpoint.specs.Writing.{Draft}
 use Rattle.store.proofs.Checkpointed.{no_call}
@@ -45,7 +45,7 @@ invariant_of-self-2-clause-goes_on g c works now =
     let s = c.args.self.now in
     let h = c.begin.ensures.writes.honest.0 now in
     let from : c.args.self.now.found.header.arcs ≤ length c.in-Ok.frozen.arcs = omega (arith, c.args.self.now.arcs_from, ap (λ (n : Net). length n.arcs) c.in-Ok.ensures.same) in
-    ∣ subst (λ (n : Net). GoesOn (g.D.Disk.content c.begin.new.disk) c.args.self.now.found.header c.in-Ok-new.next c.in-Ok.frozen 0 n c.args.self.now.found.version c.args.self.now.found.next_sequence) c.in-Ok.ensures.same
+    ∣ subst (λ (n : Net). DraftGoesOn (g.D.Disk.content c.begin.new.disk) c.args.self.now.found.header c.in-Ok-new.next c.in-Ok.frozen 0 n c.args.self.now.found.version c.args.self.now.found.next_sequence) c.in-Ok.ensures.same
     (begins (g.D.Disk.content c.begin.new.disk) s.found.header c.in-Ok-new.next c.in-Ok.frozen s.found.version s.found.next_sequence (ap (λ (d : Draft). d.written) c.in-Ok-new.ensures) (ap (λ (d : Draft). d.version) c.in-Ok-new.ensures)
     (ap (λ (d : Draft). d.next_sequence) c.in-Ok-new.ensures) c.in-Ok.ensures.network from (c.in-Ok-begin.ensures.shut h).closed) ∣₁
 

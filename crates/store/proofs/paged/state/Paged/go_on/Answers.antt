@@ -4,7 +4,7 @@ use Rattle.pages.specs.declared.content.Slot.{Slot}
 use Rattle.storefile.specs.Standing.{Standing}
 use Rattle.checkpoint.specs.Writing.{Draft, IsSlotShut}
 use Rattle.store.specs.declared.paged.going.GoingCheckpoint.{GoingCheckpoint}
-use Rattle.store.specs.Going.{FitsStore, GoesOn}
+use Rattle.store.specs.Going.{FitsStore, DraftGoesOn}
 use Rattle.store.proofs.Checkpointed.{shut_told, shut_tidily}
 use Rattle.store.proofs.GoingOn.{from_some, some_goes, words_held, fits_part, goes_part, told_as, stands_as, moments_of_part, told_by_parts, stands_by_parts}
 use Rattle.store.proofs.paged.state.Paged.go_on.Goals as goal
@@ -13,7 +13,7 @@ pub go_on-requires-clause-pages : goal.go_on-requires-clause-pages
 go_on-requires-clause-pages g c h =
     let s = c.args.self.now in
     let p = c.in-Some.going in
-    let goes = some_goes (λ (y : GoingCheckpoint). GoesOn (g.D.Disk.content s.disk) s.found.header y.next y.frozen y.committed s.found.network s.found.version s.found.next_sequence) s.going p c.in-Some.ensures.value (s.goes_on c.requires.works h) in
+    let goes = some_goes (λ (y : GoingCheckpoint). DraftGoesOn (g.D.Disk.content s.disk) s.found.header y.next y.frozen y.committed s.found.network s.found.version s.found.next_sequence) s.going p c.in-Some.ensures.value (s.goes_on c.requires.works h) in
     words_held (g.D.Disk.content s.disk) s.found.header p.next p.frozen p.committed s.found.network s.found.version s.found.next_sequence goes
 
 pub returns-in_default-go_on-clause-any_moment : goal.returns-in_default-go_on-clause-any_moment
@@ -22,7 +22,7 @@ returns-in_default-go_on-clause-any_moment g c h stands =
     let p = c.in-Some.going in
     let x : Standing = record { header = s.found.header; slot = s.found.slot; epoch = s.found.epoch; network = s.found.network; version = s.found.version; next = s.found.next_sequence; unchecked = s.found.unchecked } in
     let fits = from_some (λ (y : GoingCheckpoint). FitsStore s.found.header s.found.slot s.found.epoch s.found.version s.found.next_sequence s.found.unchecked y.next y.committed) s.going p c.in-Some.ensures.value s.fits in
-    let goes = some_goes (λ (y : GoingCheckpoint). GoesOn (g.D.Disk.content s.disk) s.found.header y.next y.frozen y.committed s.found.network s.found.version s.found.next_sequence) s.going p c.in-Some.ensures.value (s.goes_on c.requires.works h) in
+    let goes = some_goes (λ (y : GoingCheckpoint). DraftGoesOn (g.D.Disk.content s.disk) s.found.header y.next y.frozen y.committed s.found.network s.found.version s.found.next_sequence) s.going p c.in-Some.ensures.value (s.goes_on c.requires.works h) in
     moments_of_part g.D.Disk.content g.D.Disk.moment g.D.Disk.left_since s.disk c.go_on.new.disk x p.next p.frozen p.committed s.numbers fits stands goes (c.go_on.ensures.writes.any_moment h)
 
 pub returns-then-not-whole-clause-any_moment : goal.returns-then-not-whole-clause-any_moment
@@ -31,7 +31,7 @@ returns-then-not-whole-clause-any_moment g c h stands =
     let p = c.in-Some.going in
     let x : Standing = record { header = s.found.header; slot = s.found.slot; epoch = s.found.epoch; network = s.found.network; version = s.found.version; next = s.found.next_sequence; unchecked = s.found.unchecked } in
     let fits = from_some (λ (y : GoingCheckpoint). FitsStore s.found.header s.found.slot s.found.epoch s.found.version s.found.next_sequence s.found.unchecked y.next y.committed) s.going p c.in-Some.ensures.value s.fits in
-    let goes = some_goes (λ (y : GoingCheckpoint). GoesOn (g.D.Disk.content s.disk) s.found.header y.next y.frozen y.committed s.found.network s.found.version s.found.next_sequence) s.going p c.in-Some.ensures.value (s.goes_on c.requires.works h) in
+    let goes = some_goes (λ (y : GoingCheckpoint). DraftGoesOn (g.D.Disk.content s.disk) s.found.header y.next y.frozen y.committed s.found.network s.found.version s.found.next_sequence) s.going p c.in-Some.ensures.value (s.goes_on c.requires.works h) in
     moments_of_part g.D.Disk.content g.D.Disk.moment g.D.Disk.left_since s.disk c.go_on.new.disk x p.next p.frozen p.committed s.numbers fits stands goes (c.go_on.ensures.writes.any_moment h)
 
 pub returns-clause-any_moment : goal.returns-clause-any_moment
@@ -40,7 +40,7 @@ returns-clause-any_moment g c h stands =
     let p = c.in-Some.going in
     let x : Standing = record { header = s.found.header; slot = s.found.slot; epoch = s.found.epoch; network = s.found.network; version = s.found.version; next = s.found.next_sequence; unchecked = s.found.unchecked } in
     let fits = from_some (λ (y : GoingCheckpoint). FitsStore s.found.header s.found.slot s.found.epoch s.found.version s.found.next_sequence s.found.unchecked y.next y.committed) s.going p c.in-Some.ensures.value s.fits in
-    let goes = some_goes (λ (y : GoingCheckpoint). GoesOn (g.D.Disk.content s.disk) s.found.header y.next y.frozen y.committed s.found.network s.found.version s.found.next_sequence) s.going p c.in-Some.ensures.value (s.goes_on c.requires.works h) in
+    let goes = some_goes (λ (y : GoingCheckpoint). DraftGoesOn (g.D.Disk.content s.disk) s.found.header y.next y.frozen y.committed s.found.network s.found.version s.found.next_sequence) s.going p c.in-Some.ensures.value (s.goes_on c.requires.works h) in
     moments_of_part g.D.Disk.content g.D.Disk.moment g.D.Disk.left_since s.disk c.go_on.new.disk x p.next p.frozen p.committed s.numbers fits stands goes (c.go_on.ensures.writes.any_moment h)
 
 pub invariant_of-self-then-not-whole : goal.invariant_of-self-then-not-whole
@@ -62,7 +62,7 @@ invariant_of-self-then-not-whole g c =
           let h = c.go_on.ensures.writes.honest.0 now in
           goes_part (g.D.Disk.content s.disk) (g.D.Disk.content c.go_on.new.disk) s.found.header s.found.slot p.next c.go_on.new.self (p.next.written + c.args.pages) p.frozen p.committed s.found.network s.found.version s.found.next_sequence fits.slot_is written
           (c.in-Ok.ensures.shut h c.if-not-whole.true) (c.in-Ok.ensures.pages h c.if-not-whole.true)
-          (some_goes (λ (y : GoingCheckpoint). GoesOn (g.D.Disk.content s.disk) s.found.header y.next y.frozen y.committed s.found.network s.found.version s.found.next_sequence) s.going p c.in-Some.ensures.value (s.goes_on c.requires.works h));
+          (some_goes (λ (y : GoingCheckpoint). DraftGoesOn (g.D.Disk.content s.disk) s.found.header y.next y.frozen y.committed s.found.network s.found.version s.found.next_sequence) s.going p c.in-Some.ensures.value (s.goes_on c.requires.works h));
     }
 
 pub returns-then-not-whole-clause-stands : goal.returns-then-not-whole-clause-stands
@@ -80,7 +80,7 @@ returns-clause-stands g c h stands =
     let p = c.in-Some.going in
     let x : Standing = record { header = s.found.header; slot = s.found.slot; epoch = s.found.epoch; network = s.found.network; version = s.found.version; next = s.found.next_sequence; unchecked = s.found.unchecked } in
     let fits = from_some (λ (y : GoingCheckpoint). FitsStore s.found.header s.found.slot s.found.epoch s.found.version s.found.next_sequence s.found.unchecked y.next y.committed) s.going p c.in-Some.ensures.value s.fits in
-    let goes = some_goes (λ (y : GoingCheckpoint). GoesOn (g.D.Disk.content s.disk) s.found.header y.next y.frozen y.committed s.found.network s.found.version s.found.next_sequence) s.going p c.in-Some.ensures.value (s.goes_on c.requires.works h) in
+    let goes = some_goes (λ (y : GoingCheckpoint). DraftGoesOn (g.D.Disk.content s.disk) s.found.header y.next y.frozen y.committed s.found.network s.found.version s.found.next_sequence) s.going p c.in-Some.ensures.value (s.goes_on c.requires.works h) in
     stands_as (g.D.Disk.content c.go_on.new.disk) x p.next p.committed c.slot-self.result c.epoch-self.result
     (c.slot-self.ensures ∙ ap (λ (d : Draft). d.slot) c.go_on.ensures.own)
     (c.epoch-self.ensures ∙ ap (λ (d : Draft). d.epoch) c.go_on.ensures.own)
@@ -92,7 +92,7 @@ returns-clause-as_told g c h told =
     let p = c.in-Some.going in
     let x : Standing = record { header = s.found.header; slot = s.found.slot; epoch = s.found.epoch; network = s.found.network; version = s.found.version; next = s.found.next_sequence; unchecked = s.found.unchecked } in
     let fits = from_some (λ (y : GoingCheckpoint). FitsStore s.found.header s.found.slot s.found.epoch s.found.version s.found.next_sequence s.found.unchecked y.next y.committed) s.going p c.in-Some.ensures.value s.fits in
-    let goes = some_goes (λ (y : GoingCheckpoint). GoesOn (g.D.Disk.content s.disk) s.found.header y.next y.frozen y.committed s.found.network s.found.version s.found.next_sequence) s.going p c.in-Some.ensures.value (s.goes_on c.requires.works h) in
+    let goes = some_goes (λ (y : GoingCheckpoint). DraftGoesOn (g.D.Disk.content s.disk) s.found.header y.next y.frozen y.committed s.found.network s.found.version s.found.next_sequence) s.going p c.in-Some.ensures.value (s.goes_on c.requires.works h) in
     told_as (g.D.Disk.content c.go_on.new.disk) x p.next p.committed c.slot-self.result c.epoch-self.result
     (c.slot-self.ensures ∙ ap (λ (d : Draft). d.slot) c.go_on.ensures.own)
     (c.epoch-self.ensures ∙ ap (λ (d : Draft). d.epoch) c.go_on.ensures.own)

@@ -3,7 +3,7 @@ use Rattle.std.specs.List.{position_or_len}
 use Rattle.dimacs.specs.NumeralEnds.{EndsInDigits}
 use Rattle.dimacs.proofs.Alikes.{same_row}
 use Rattle.dimacs.proofs.ShortEnds.{few_kept, moved_same, moved_short}
-use Rattle.dimacs.proofs.lines.front.Front.shorten.Goals as goal
+use Rattle.dimacs.proofs.lines.front.LineFront.shorten.Goals as goal
 
 pub returns-in_default-clause-same : goal.returns-in_default-clause-same
 returns-in_default-clause-same c more = same_row _

@@ -3,8 +3,8 @@ use Rattle.std.specs.Prelude.{unwrap_or}
 use mathlib.Core.List.{IsPrefix}
 use Rattle.history.specs.Origins.{Beginning}
 use Rattle.published.specs.Showing.{Showing}
-use Rattle.published.proofs.readers.Reader.look.Goals as goal
-use Rattle.published.proofs.readers.Reader.look.Goals.{in-Some+else-not-begins, in_default}
+use Rattle.published.proofs.readers.ShownReader.look.Goals as goal
+use Rattle.published.proofs.readers.ShownReader.look.Goals.{in-Some+else-not-begins, in_default}
 
 pub returns-clause-begins : goal.returns-clause-begins
 returns-clause-begins c =

@@ -35,7 +35,7 @@ beyond_later d b end queue positive within later u x queued =
 -- where nothing is queued, nothing is before an end
 pub beyond_over : (end : Option ℕ) (queue : Entries) → queue ≡ empty → IsBeyond end queue
 beyond_over None queue none = none
-beyond_over (Some e) queue none u x has = absurd (let no : None ≡ Some x = sym (ap (λ (m : Entries). get m u) none ∙ get-empty nat_cmp u) ∙ has in let absurdity : ⊥ = cc in absurdity)
+beyond_over (Some e) queue none = λ u x has. absurd (let no : None ≡ Some x = sym (ap (λ (m : Entries). get m u) none ∙ get-empty nat_cmp u) ∙ has in let absurdity : ⊥ = cc in absurdity)
 
 -- by a test whether a node's value is in a bucket or an earlier one
 pub beyond_within : (t : List (Option ℕ)) (queue : Entries) (v delta width b : ℕ) (within : Bool) → 1 ≤ delta → width ≡ delta → MatchOption (value_at t v) (within ≡ false) (λ value. IsTrue within ↔ (value / width ≤ b)) → within ≡ true → AreLater delta b queue → IsBeyond (value_at t v) queue

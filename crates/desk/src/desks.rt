@@ -175,27 +175,7 @@ impl<S: Served> Desk<S> {
 
     /// Halts the desk, and waits until both of its threads have ended. Then what was accepted is durable and shown, or never will be. Whoever waits by a
     /// handle is served or refused.
-    pub fn end_showing(&self) {
-        self.shared.end_showing(&self.rt)
-    }
-
-    /// What threads share to call the desk at the same time.
-    pub fn handle(&self) -> &Handle<S> {
-        &self.handle
-    }
-
-    /// Halts the desk, waits for its threads, and returns what it leaves: the history, what was shown last, and the disk. Its readers can no longer look.
-    /// Others may still have handles: from then on each call of theirs is refused (61), and nobody waits.
-    ///
-    /// It would fail with 61 if the office had been taken out before, which never happens.
-    pub fn close(self) -> Result<Closed<S::Disk>, Refusal>
-        ensures origin { IfOk result (λ closed. closed.whole.origin ≡ S.Naming.origin) }
-        ensures causes { IfErr result (λ refusal. refusal ≡ closed) }
-        // The disk keeps the disk model.
-        ensures honest { S.Naming.came_tidy → IfOk result (λ closed. S.Disk.honest closed.disk) }
-        // What a stop may leave on the disk stands for the network after a front of the history that has everything acknowledged or shown.
-        ensures left { S.Naming.came_tidy → IfOk result (λ closed. AreAmong (S.Disk.left closed.disk) (KeepsDesk closed.whole closed.shown closed.journal_pages)) }
-    {
+    pub fn end_showing(self) -> EndedDesk<S> {
         let Desk {
             handle,
             threads,
@@ -211,6 +191,51 @@ impl<S: Served> Desk<S> {
         } = handle;
         shared.halt(&rt);
         threads.join(&rt);
+        EndedDesk { rt, shared }
+    }
+
+    /// What threads share to call the desk at the same time.
+    pub fn handle(&self) -> &Handle<S> {
+        &self.handle
+    }
+
+    /// Halts the desk, waits for its threads, and returns what it leaves, as `EndedDesk::close` does.
+    pub fn close(self) -> Result<Closed<S::Disk>, Refusal>
+        ensures origin { IfOk result (λ closed. closed.whole.origin ≡ S.Naming.origin) }
+        ensures causes { IfErr result (λ refusal. refusal ≡ closed) }
+        ensures honest { S.Naming.came_tidy → IfOk result (λ closed. S.Disk.honest closed.disk) }
+        ensures left { S.Naming.came_tidy → IfOk result (λ closed. AreAmong (S.Disk.left closed.disk) (KeepsDesk closed.whole closed.shown closed.journal_pages)) }
+    {
+        self.end_showing().close()
+    }
+}
+
+/// A desk whose threads have ended: the last view is shown. Its readers can still look. If it is dropped it is closed.
+pub struct EndedDesk<S: Served> {
+    rt: S::Runtime,
+    shared: Arc<Shared<S>>,
+}
+
+impl<S: Served> Drop for EndedDesk<S> {
+    fn drop(self) {
+        let _ = self.close();
+    }
+}
+
+impl<S: Served> EndedDesk<S> {
+    /// What the desk leaves: the history, what was shown last, and the disk. Its readers can no longer look. Others may still have handles: from then on each
+    /// call of theirs is refused (61), and nobody waits.
+    ///
+    /// It would fail with 61 if the office had been taken out before, which never happens.
+    pub fn close(self) -> Result<Closed<S::Disk>, Refusal>
+        ensures origin { IfOk result (λ closed. closed.whole.origin ≡ S.Naming.origin) }
+        ensures causes { IfErr result (λ refusal. refusal ≡ closed) }
+        // The disk keeps the disk model.
+        ensures honest { S.Naming.came_tidy → IfOk result (λ closed. S.Disk.honest closed.disk) }
+        // What a stop may leave on the disk stands for the network after a front of the history that has everything acknowledged or shown.
+        ensures left { S.Naming.came_tidy → IfOk result (λ closed. AreAmong (S.Disk.left closed.disk) (KeepsDesk closed.whole closed.shown closed.journal_pages)) }
+    {
+        let EndedDesk { rt, shared } = self;
         match shared.take_office(&rt) {
             Some(office) => Ok(office.close(&rt)),
             None => Err(Refusal::Closed),

@@ -9,7 +9,7 @@ mod readers;
 mod served;
 mod threads;
 
-pub use desks::{Desk, Setup};
+pub use desks::{Desk, EndedDesk, Setup};
 pub use gates::{Gate, NoGate};
 pub use handles::handle::Handle;
 pub use handles::refused::Refused;

@@ -195,9 +195,9 @@ fn close_desk<S: Served>(
     if let Some(mut lock) = lock {
         let _ = lock.let_go();
     }
-    desk.end_showing();
-    let _ = answering.let_finish(&threads, LAST_ANSWERS);
-    desk.close()
+    let ended = desk.end_showing();
+    let _ = answering.let_finish(&threads, &ended, LAST_ANSWERS);
+    ended.close()
 }
 
 /// A session over an opened store, and those with clients that come through doors. Returns its outcome, and what its desk leaves, which is closed after it

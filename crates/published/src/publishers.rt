@@ -135,7 +135,7 @@ impl Publisher {
 
     /// A reader of this desk that has not seen any group.
     ///
-    /// It fails with 60 if no free place is found, which may happen while readers come and go.
+    /// It fails with 60 if each place is taken. While it looks nobody else takes one.
     pub fn reader(&mut self) -> Result<ShownReader, Refusal>
         ensures same { self.new ≡ self.old }
         ensures reader { IfOk result (λ reader. (reader.origin ≡ self.old.shown.origin) × (reader.groups ≡ [])) }

@@ -7,7 +7,7 @@ use deltastep::{
 };
 use fixtures::arc;
 use relax::{Solo, Team, Tentative};
-use roadnet::{Command, Network, OutOfMemory, Refusal};
+use roadnet::{Command, Network, OutOfMemory, Refusal, RoadArc};
 use rows::numbered_back;
 use snapshot::{Part, Snapshot};
 use std::alloc::{AllocError, Global};
@@ -80,9 +80,32 @@ fn made_for(alloc: Global, groups: &Snapshot) -> Result<(usize, usize), Refusal>
     Ok((whole, team.made.get()))
 }
 
-/// How many bounds are given to a search from node 1 to a node in the middle, 2,500 rungs on.
-fn given_for(alloc: Global, groups: &Snapshot) -> Result<u32, Refusal> {
-    let target = 5_001;
+/// Adds an arc of this length from each of the two nodes to the other.
+fn add_both(arcs: &mut Vec<RoadArc>, one: u32, other: u32, length: u32) -> Result<(), AllocError> {
+    arcs.push(arc(one, other, length))
+        .map_err(AllocError::from)?;
+    arcs.push(arc(other, one, length))
+        .map_err(AllocError::from)?;
+    Ok(())
+}
+
+/// 50 by 50 nodes in a square, and arcs of lengths from 65 to 128 between neighbours.
+fn square(alloc: Global) -> Result<Network, Refusal> {
+    let mut arcs = Vec::new(alloc);
+    for node in 1..2_501 {
+        let length = node * 37 % 64 + 65;
+        if node % 50 != 0 {
+            add_both(&mut arcs, node, node + 1, length)?;
+        }
+        if node <= 2_450 {
+            add_both(&mut arcs, node, node + 50, length)?;
+        }
+    }
+    Network::new(alloc, 2_500, arcs, &[])
+}
+
+/// How many bounds are given to a search from node 1 to the target.
+fn given_for(alloc: Global, groups: &Snapshot, target: u32) -> Result<u32, Refusal> {
     if !groups.has_node(1) || !groups.has_node(target) {
         return Err(Refusal::NoSuchNode);
     }
@@ -96,11 +119,11 @@ fn given_for(alloc: Global, groups: &Snapshot) -> Result<u32, Refusal> {
     Ok(guide.given.get())
 }
 
-/// What `made_for` and `given_for` count in the ladder.
+/// What `made_for` counts in the ladder, and how many bounds are given to a search for a node in the middle, 2,500 rungs on.
 fn counted(alloc: Global) -> Result<(usize, usize, u32), Refusal> {
     let groups = Snapshot::build(alloc, &ladder(alloc)?, 1)?;
     let (whole, near) = made_for(alloc, &groups)?;
-    Ok((whole, near, given_for(alloc, &groups)?))
+    Ok((whole, near, given_for(alloc, &groups, 5_001)?))
 }
 
 /// How many nodes have other legs after a change, and how many requests are made to repair the row of node 1.
@@ -158,4 +181,18 @@ fn searches_settle_what_they_have_to(rt: HostRuntime) {
     assert!(rt; given < 5_100, "{given}");
     let (changed, made) = repaired_near_the_end(rt.alloc()).expect(&rt, "memory");
     assert!(rt; changed == 1 && made < 100, "{changed} {made}");
+}
+
+/// How many bounds are given to a search for the node in the middle of the square.
+fn given_in_square(alloc: Global) -> Result<u32, Refusal> {
+    let groups = Snapshot::build(alloc, &square(alloc)?, 128)?;
+    given_for(alloc, &groups, 1_275)
+}
+
+/// Where arcs are about as long as each other, a led search takes nodes in the order of their keys: Dijkstra's algorithm lowers 1,433 values before it settles
+/// the middle of the square. Refused is a ring with too few lists for the keys, which lowers 3,800.
+#[test]
+fn led_searches_keep_the_order(rt: HostRuntime) {
+    let given = given_in_square(rt.alloc()).expect(&rt, "memory");
+    assert!(rt; given < 1_600, "{given}");
 }

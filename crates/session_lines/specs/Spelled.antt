@@ -1,7 +1,7 @@
 -- The words of a session.
 use Rattle.std.specs.Prelude.{ℕ, List, [], ◌∷◌, ◌++◌, map, Option}
 use lib.Chars.{codes}
-use Rattle.dimacs.specs.Spelling.{spelled_word, one_session_spelling as common_one, one_session_words as common_ones, two_session_spelling as common_two, two_session_words as common_twos}
+use Rattle.dimacs.specs.Spelling.{spelled_word, one_spelling as common_one, one_words as common_ones, two_spelling as common_two, two_words as common_twos}
 use Rattle.session_lines.specs.declared.words.Bare.{Bare}
 use Rattle.session_lines.specs.declared.words.Bare.TheVariants.{Wait, Quit, Begin, End, Landmarks, Closed, State, Suppose, Forget}
 use Rattle.session_lines.specs.declared.words.One.{One}

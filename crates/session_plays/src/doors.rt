@@ -162,9 +162,9 @@ fn serve_doors<N: Naming + Send + Sync + 'static, R: CaseRuntime>(
     if !reaches(&rt, &told.ended, all) {
         return Err(Refusal::NotYet);
     }
-    desk.end_showing();
-    let has_finished = visits.answering().let_finish(&rt, 1000);
-    let closed = desk.close()?;
+    let ended = desk.end_showing();
+    let has_finished = visits.answering().let_finish(&rt, &ended, 1000);
+    let closed = ended.close()?;
     Ok((has_finished && visits.past(&rt).is_kept(&closed), closed))
 }
 

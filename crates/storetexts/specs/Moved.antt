@@ -8,7 +8,7 @@ use Rattle.disk.specs.Contents.{Only}
 use Rattle.pages.specs.declared.content.Format.{Format}
 use Rattle.storefile.specs.StoreFile.{StandsIn, StandsTidyFor}
 use Rattle.store.specs.Created.{IsNewFile}
-use Rattle.store.specs.Migrating.{CountsCopyFailure, IsCopyIn, MayEndCopying, IsMoveRefusedForNew as refused_for_new, IsMoveRefusedForOld as refused_for_old}
+use Rattle.store.specs.Migrating.{CountsCopyFailure, IsCopyIn, MayEndCopying, IsRefusedForNew as refused_for_new, IsRefusedForOld as refused_for_old}
 use Rattle.store.specs.State.{checkpoint_pages_of}
 use Rattle.printing.specs.declared.failed.Failed.{Failed}
 use Rattle.printing.specs.declared.failed.Failed.TheVariants.{Text, Code}

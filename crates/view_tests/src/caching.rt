@@ -122,7 +122,7 @@ const SIDES: [([(u64, u64); 3], usize); 5] = [
 ];
 
 /// A cache for one row is left with that of the greatest source: pairs of a source follow each other, so its row is made once. Refused is a body that makes
-/// rows of the other side, that makes a kept one again, or that takes pairs in their order.
+/// rows of the other side, or that takes pairs in their order.
 #[test]
 fn rows_of_a_batch(rt: HostRuntime) {
     let view = view_of_six(rt.alloc(), &[]).expect(&rt, "memory");

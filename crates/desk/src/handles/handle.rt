@@ -136,8 +136,8 @@ impl<S: Served> Handle<S> {
 
     /// A reader of the shown views. It has looked once, and knows the groups after which the view that it saw is shown.
     ///
-    /// It fails with 60 if no free place is found: there are 64, and while readers come and go a free one may be missed. Then it may fail with 11 for lack
-    /// of memory, and with 61 if the copy cannot be entered, which does not happen while the desk exists.
+    /// It fails with 60 if each of the 64 places is taken. Then it may fail with 11 for lack of memory, and with 61 if the copy cannot be entered, which does
+    /// not happen while the desk exists.
     pub fn reader(&self) -> Result<Reader<S::Naming>, Refusal>
         ensures origin { IfOk result (λ reader. reader.known.origin ≡ S.Naming.origin) }
         ensures view { IfOk result (λ reader. IsViewAfter S.Naming.origin reader.known.groups reader.view) }
@@ -149,7 +149,7 @@ impl<S: Served> Handle<S> {
 
     /// A reader place, for whoever looks now and then: it has seen no group, and holds no view. It is one of the 64 that `reader` speaks of.
     ///
-    /// It fails with 60 if no free place is found, as `reader` does, and with 61 if the desk is closed.
+    /// It fails with 60 if each of them is taken, and with 61 if the desk is closed.
     pub fn place(&self) -> Result<Place<S::Naming>, Refusal>
         ensures { IfErr result IsNoPlace }
     {

@@ -113,16 +113,6 @@ impl<S: Served> Shared<S> {
         );
     }
 
-    /// Halts, and waits until the flusher and the builder have ended.
-    pub(crate) fn end_showing(&self, rt: &S::Runtime) {
-        self.halt(rt);
-        let _ = self.published.wait_while(
-            rt,
-            self.held.lock(rt),
-            |held: &mut Held<OfficeOf<S>>| !(held.flusher_ended && held.builder_ended),
-        );
-    }
-
     /// The builder has ended.
     pub(crate) fn end_builder(&self, rt: &S::Runtime) {
         self.held.lock(rt).builder_ended = true;

@@ -1,4 +1,5 @@
 //! Which sessions are within an answer, so that a server that ends can wait for them.
+use desk::{EndedDesk, Served};
 use std::sync::atomic::{AtomicU64, Ordering};
 use std::thread;
 use std::time::{Clock, Duration};
@@ -37,8 +38,13 @@ impl Answering {
     }
 
     /// Gives the sessions that are within an answer so many milliseconds to send it, and returns whether all have. It does not wait for answers that begin
-    /// from now on: so a desk is halted before its sessions are given this time.
-    pub fn let_finish<R: Clock>(&self, rt: &R, millis: u64) -> bool {
+    /// from now on. Their desk has ended, so none of them waits for a view.
+    pub fn let_finish<R: Clock, S: Served>(
+        &self,
+        rt: &R,
+        _desk: &EndedDesk<S>,
+        millis: u64,
+    ) -> bool {
         self.ending.store(1, Ordering::SeqCst);
         for _ in 0..millis {
             if self.count.load(Ordering::SeqCst) == 0 {

@@ -8,27 +8,12 @@ ghost use Rattle.sessions.specs.Told.{known_to, IsReached, IsUnmet, IsUnsighted}
 use desk::{Glance, Handle, Naming, Place, Served, Shown};
 use roadnet::Refusal;
 
-/// How often a reader place is requested before the session reports that there is none.
-const TRIES: usize = 8;
-
-/// A reader place of the desk. If none is free (60), as may happen while readers come and go, it tries again a few times.
-fn find_place<S: Served>(desk: &Handle<S>) -> Result<Place<S::Naming>, Refusal>
-    ensures { IfErr result IsNoPlace }
-{
-    for _ in 1..TRIES {
-        match desk.place() {
-            Err(Refusal::NoReaderPlace) => (),
-            found => return found,
-        }
-    }
-    desk.place()
-}
-
-/// Acquires a reader place if the session has none. It fails as `Handle::place` does, after several tries.
+/// Acquires a reader place if the session has none. It fails as `Handle::place` does.
 fn take_place<S: Served>(
     place: &mut Option<Place<S::Naming>>,
     desk: &Handle<S>,
 ) -> Result<(), Refusal>
+    ensures refused { IfErr result IsNoPlace }
     ensures causes { IfErr result (IsUnsighted (known_to place.new)) }
     // A place that the session has stays.
     ensures held { IsSome place.old → IsOk result }
@@ -38,7 +23,7 @@ fn take_place<S: Served>(
     match &*place {
         Some(_) => Ok(()),
         None => {
-            *place = Some(find_place(desk)?);
+            *place = Some(desk.place()?);
             Ok(())
         }
     }

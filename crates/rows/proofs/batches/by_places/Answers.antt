@@ -14,7 +14,7 @@ loop-index-preserved g c =
     let within : place < length c.args.pairs.now = c.requires.places.within c.loop-index.index 0 c.loop-index-test.true in
     let within' : place < length c.loop-index.replies.items = omega (arith, within, c.loop-index.invariant.count) in
     record {
-      right = put_more net g.E.Ends.source g.E.Ends.target c.args.pairs.now c.loop-index.replies.items place c.index-pairs-place.result c.in_ok-replies-2.field-0 c.args.places.now c.loop-index.index 0 _ c.loop-index-test.true refl within' within c.index-pairs-place.is
+      right = put_more net g.E.PairEnds.source g.E.PairEnds.target c.args.pairs.now c.loop-index.replies.items place c.index-pairs-place.result c.in_ok-replies-2.field-0 c.args.places.now c.loop-index.index 0 _ c.loop-index-test.true refl within' within c.index-pairs-place.is
           (right_of net _ _ _ _ c.in_ok-replies-2.field-0 c.source-source.ensures c.target-target.ensures c.in_ok-replies-2.ensures.right)
           c.loop-index.invariant.right;
       count = length-set c.loop-index.replies.items place c.in_ok-replies-2.field-0 ∙ c.loop-index.invariant.count;
@@ -26,5 +26,5 @@ loop-index-preserved g c =
 pub returns-clause-right : goal.returns-clause-right
 returns-clause-right g c =
     let all : take c.loop-index.index c.args.places.now ≡ c.args.places.now = take_all c.loop-index.index c.args.places.now c.loop-index-test.false in
-    all_right c.args.network.now g.E.Ends.source g.E.Ends.target c.args.pairs.now c.loop-index.replies.items c.args.places.now c.loop-index.invariant.count c.requires.places
-    (subst (All (IsRightAt c.args.network.now g.E.Ends.source g.E.Ends.target c.args.pairs.now c.loop-index.replies.items)) all c.loop-index.invariant.right)
+    all_right c.args.network.now g.E.PairEnds.source g.E.PairEnds.target c.args.pairs.now c.loop-index.replies.items c.args.places.now c.loop-index.invariant.count c.requires.places
+    (subst (All (IsRightAt c.args.network.now g.E.PairEnds.source g.E.PairEnds.target c.args.pairs.now c.loop-index.replies.items)) all c.loop-index.invariant.right)

@@ -5,7 +5,7 @@ use Rattle.rows.proofs.batches.by_places.Given as goal
 
 abbrev pub invariant-loop-index : goal.invariant-loop-index
 invariant-loop-index g l = record {
-  right : All (IsRightAt l.network g.E.Ends.source g.E.Ends.target l.pairs l.replies.items) (take l.index l.places);
+  right : All (IsRightAt l.network g.E.PairEnds.source g.E.PairEnds.target l.pairs l.replies.items) (take l.index l.places);
   count : length l.replies.items ≡ length l.pairs;
   kept : HasRowsOf l.version l.network l.cache;
   others : KeepsOthers l.version l.initial.cache l.cache;

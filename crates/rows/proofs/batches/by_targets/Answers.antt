@@ -13,5 +13,5 @@ returns g c =
     let back = c.in_ok-back.ensures.network in
     let is_back : IsNetwork c.in_ok-back.back = subst IsNetwork c.back.view_is c.back.invariant in
     let is : IsNetwork net = subst IsNetwork (reversed_twice net) (IsNetwork-reversed (reversed net) (subst IsNetwork back is_back)) in
-    if_turned net is g.E.Ends.source g.E.Ends.target c.args.pairs.now c.by_places.result
-    (subst (λ (n : Net). IfOk c.by_places.result (λ replies. AreRightBy n g.E.Ends.target g.E.Ends.source c.args.pairs.now replies.items)) back c.by_places.ensures.right)
+    if_turned net is g.E.PairEnds.source g.E.PairEnds.target c.args.pairs.now c.by_places.result
+    (subst (λ (n : Net). IfOk c.by_places.result (λ replies. AreRightBy n g.E.PairEnds.target g.E.PairEnds.source c.args.pairs.now replies.items)) back c.by_places.ensures.right)

@@ -5,7 +5,7 @@ use Rattle.roadnet.specs.Net.{Net}
 use Rattle.deltastep.specs.Reach.{AreFinal, AreNodesOfRow, IsReach, node_told_of}
 use Rattle.deltastep.specs.declared.rows.known.NodeDistance.{NodeDistance}
 use Rattle.deltastep.proofs.Telling.{AreAllWithin-same, ArePlaces-within, IsReach-told}
-use Rattle.deltastep.proofs.questions.reach.WithinAsked.answer.Goals as goal
+use Rattle.deltastep.proofs.questions.reach.WithinQuestion.answer.Goals as goal
 
 pub told-requires : goal.told-requires
 told-requires c =

@@ -9,10 +9,10 @@ use Rattle.printing.specs.declared.failed.Failed.{Failed}
 use Rattle.printing.specs.declared.failed.Failed.TheVariants.{Text, Code}
 use Rattle.words.specs.declared.pipes.PipePair.{PipePair}
 use Rattle.words.specs.Pipes.{pipe_named}
-use Rattle.words.specs.declared.words.PairTexts.{PairTexts}
-use Rattle.words.specs.declared.words.PairTexts.TheVariants.{Listed, Table}
-use Rattle.words.specs.declared.words.Job.{Job}
-use Rattle.words.specs.declared.words.Job.TheVariants.{Joint, Once, Route, Batch, Reach, Reached, Rehearse, Create, Apply, Ask, Check, Serve, Migrate, Copy, Upgrade, Show, Export}
+use Rattle.words.specs.declared.jobs.PairTexts.{PairTexts}
+use Rattle.words.specs.declared.jobs.PairTexts.TheVariants.{Listed, Table}
+use Rattle.words.specs.declared.jobs.Job.{Job}
+use Rattle.words.specs.declared.jobs.Job.TheVariants.{Joint, Once, Route, Batch, Reach, Reached, Rehearse, Create, Apply, Ask, Check, Serve, Migrate, Copy, Upgrade, Show, Export}
 
 -- the failure is one of the call's first text
 abbrev pub is_of_first : Failed → Bool

@@ -1,8 +1,8 @@
 -- What a job works on.
 use Rattle.file_jobs.specs.declared.running.Kind.{Kind}
 use Rattle.file_jobs.specs.declared.running.Kind.TheVariants.{Texts, NewStore, OldStore, Served}
-use Rattle.words.specs.declared.words.Job.{Job}
-use Rattle.words.specs.declared.words.Job.TheVariants.{Joint, Once, Route, Batch, Reach, Reached, Rehearse, Create, Apply, Ask, Check, Serve, Migrate, Copy, Upgrade, Show, Export}
+use Rattle.words.specs.declared.jobs.Job.{Job}
+use Rattle.words.specs.declared.jobs.Job.TheVariants.{Joint, Once, Route, Batch, Reach, Reached, Rehearse, Create, Apply, Ask, Check, Serve, Migrate, Copy, Upgrade, Show, Export}
 
 -- texts alone, a store that it makes, one that is there, or one that it serves
 abbrev pub kind_of : Job → Kind

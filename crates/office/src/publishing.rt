@@ -159,7 +159,7 @@ impl<N: Naming, D: Disk> Office<N, D> {
 
     /// A reader of this desk that has not seen any group.
     ///
-    /// It fails with 60 if no free place is found: there are 64, and while readers come and go a free one may be missed.
+    /// It fails with 60 if each of the 64 places is taken. While it looks nobody else takes one.
     pub fn reader(&mut self) -> Result<ShownReader, Refusal>
         ensures reader { IfOk result (λ reader. (reader.origin ≡ N.origin) × (reader.groups ≡ [])) }
         ensures causes { IfErr result (λ refusal. refusal ≡ no_reader_place) }

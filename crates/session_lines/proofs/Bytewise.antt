@@ -8,7 +8,7 @@ use Rattle.std.proofs.lemmas.List.Elements.{All-append, All-nil}
 use Rattle.dimacs.specs.declared.fault.Code.{Code}
 use Rattle.dimacs.specs.Lines.{fields}
 use Rattle.session_lines.specs.declared.lines.Line.{Line}
-use Rattle.session_lines.specs.declared.lines.LineSoFar.{LineSoFar}
+use Rattle.session_lines.specs.declared.so_far.LineSoFar.{LineSoFar}
 use Rattle.session_lines.specs.declared.reading.LastLine.{LastLine}
 use Rattle.session_lines.specs.declared.reading.LastLine.TheVariants.{Taken, Dropped}
 use Rattle.session_lines.specs.Judging.{IsSoFar}

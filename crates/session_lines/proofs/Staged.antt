@@ -13,7 +13,7 @@ use Rattle.session_lines.specs.declared.fields.Numbers.TheVariants.{Nothing}
 use Rattle.session_lines.specs.declared.letters.Letters.{Letters}
 use Rattle.session_lines.specs.declared.lines.Line.{Line}
 use Rattle.session_lines.specs.declared.lines.Line.TheVariants.{Ignored}
-use Rattle.session_lines.specs.declared.lines.LineSoFar.{LineSoFar}
+use Rattle.session_lines.specs.declared.so_far.LineSoFar.{LineSoFar}
 use Rattle.session_lines.specs.declared.lines.Stage.{Stage}
 use Rattle.session_lines.specs.declared.lines.Stage.TheVariants.{Blank, Beginning, Remark, Unknown, Behind}
 use Rattle.session_lines.specs.declared.words.SessionWord.{SessionWord}

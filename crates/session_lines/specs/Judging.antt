@@ -12,7 +12,7 @@ use Rattle.session_lines.specs.declared.words.SessionWord.{SessionWord}
 use Rattle.session_lines.specs.declared.letters.Letters.{Letters}
 use Rattle.session_lines.specs.declared.lines.Stage.{Stage}
 use Rattle.session_lines.specs.declared.lines.Stage.TheVariants.{Blank, Beginning, Remark, Unknown, Behind, Listing as a_listing, Unnamed, Naming, Named}
-use Rattle.session_lines.specs.declared.lines.LineSoFar.{LineSoFar}
+use Rattle.session_lines.specs.declared.so_far.LineSoFar.{LineSoFar}
 use Rattle.session_lines.specs.Fields.{IsField, IsNumbers}
 use Rattle.session_lines.specs.Listings.{IsListing}
 use Rattle.session_lines.specs.SessionLines.{session_code, name_of}

@@ -10,6 +10,7 @@ mod letters;
 mod lines;
 mod names;
 mod reading;
+mod so_far;
 mod tables;
 mod words;
 

@@ -1,7 +1,6 @@
-//! The lines of a session, judged byte by byte. Of a line only a word, a name, and the numbers of a table are kept.
+//! What the lines of a session ask for, and the stages of a line that is judged byte by byte. Of a line only a word, a name, and the numbers of a table are kept.
 ghost use Rattle.std.specs.Prelude.{◌≡◌, ◌||◌, ◌∷◌, ◌++◌, [], List, ℕ, Some, true, false};
 ghost use Rattle.std.specs.Bool.{Decides};
-ghost use Rattle.std.specs.Io.BufRead.{strip_last};
 ghost use Rattle.dimacs.specs.declared.fault.Code.TheVariants.{BadLine as bad_line};
 ghost use Rattle.dimacs.specs.Commands.{is_refused};
 ghost use Rattle.dimacs.specs.Faults.{Row};
@@ -10,7 +9,7 @@ ghost use Rattle.session_lines.specs.Fields.{IsNumbers};
 ghost use Rattle.session_lines.specs.Spelled.{session_spelling};
 ghost use Rattle.session_lines.specs.Words.{bare_line, one_line, two_line};
 ghost use Rattle.session_lines.specs.SessionLines.{IsLine, session_code};
-ghost use Rattle.session_lines.specs.Judging.{IsStage, IsSoFar};
+ghost use Rattle.session_lines.specs.Judging.{IsStage};
 ghost use Rattle.session_lines.specs.SessionLines.{is_quit};
 
 use crate::asked_tables::Table;
@@ -414,7 +413,7 @@ fn behind_name(name: Name, byte: u8) -> Stage
 
 impl Stage {
     /// The line with one more byte. It only takes memory for the numbers of a table.
-    fn with(self, alloc: Global, byte: u8) -> Stage
+    pub fn with(self, alloc: Global, byte: u8) -> Stage
         ensures { (front : List ℕ) → IsStage front self → IsStage (front ++ byte ∷ []) result }
     {
         match self {
@@ -453,7 +452,7 @@ impl Stage {
     }
 
     /// What the line asks for if it ends here.
-    fn line(self) -> Line
+    pub fn line(self) -> Line
         ensures { (front : List ℕ) → IsStage front self → IsLine (fields front) result }
     {
         match self {
@@ -474,59 +473,5 @@ impl Stage {
             Stage::Naming(name) => Line::Copy(name),
             Stage::Named(name) => Line::Copy(name),
         }
-    }
-}
-
-/// A line as far as it has come: however long it is, it takes a few bytes, and memory only for the numbers of a table.
-#[derive(Drop)]
-pub struct LineSoFar {
-    stage: Stage,
-    /// The last byte was a carriage return, which is not part of the line if the line ends after it.
-    after_return: bool,
-}
-
-impl LineSoFar {
-    /// No byte so far.
-    pub fn new() -> LineSoFar
-        ensures { IsSoFar [] result }
-    {
-        LineSoFar {
-            stage: Stage::Blank,
-            after_return: false,
-        }
-    }
-
-    /// How far the line has come with all its bytes, including a carriage return at the end.
-    fn settled(self, alloc: Global) -> Stage
-        ensures { (front : List ℕ) → IsSoFar front self → IsStage front result }
-    {
-        if self.after_return {
-            return self.stage.with(alloc, b'\r');
-        }
-        self.stage
-    }
-
-    /// The line with one more byte, which is not a line feed.
-    pub fn with(self, alloc: Global, byte: u8) -> LineSoFar
-        ensures { (front : List ℕ) → IsSoFar front self → IsSoFar (front ++ byte ∷ []) result }
-    {
-        let stage = self.settled(alloc);
-        if byte == b'\r' {
-            return LineSoFar {
-                stage,
-                after_return: true,
-            };
-        }
-        LineSoFar {
-            stage: stage.with(alloc, byte),
-            after_return: false,
-        }
-    }
-
-    /// What the line asks for if it ends here.
-    pub fn line(self) -> Line
-        ensures { (front : List ℕ) → IsSoFar front self → IsLine (fields (strip_last 13 front)) result }
-    {
-        self.stage.line()
     }
 }

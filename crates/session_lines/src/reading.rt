@@ -3,7 +3,8 @@ ghost use Rattle.std.specs.Prelude.{◌≡◌, IfErr, IfSome};
 ghost use Rattle.dimacs.specs.Counts.{failed_calls, reader_of, IsSameReader, CountsCall};
 ghost use Rattle.session_lines.specs.Reads.{ReadsSessionLine};
 
-use crate::lines::{Line, LineSoFar};
+use crate::lines::Line;
+use crate::so_far::LineSoFar;
 use dimacs::{Code, Counted};
 use std::alloc::Global;
 use std::io::BufRead;

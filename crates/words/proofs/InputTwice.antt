@@ -1,8 +1,8 @@
 -- Two texts of one job that are the standard input.
 use Rattle.std.proofs.Common.{◌≡◌, ◌⊎◌, ℕ, Bool, true, false, List, refl, inl, inr, ⊎_elim}
 use Rattle.std.specs.Bool.{Decides}
-use Rattle.words.specs.declared.words.PairTexts.{PairTexts}
-use Rattle.words.specs.declared.words.PairTexts.TheVariants.{Listed, Table}
+use Rattle.words.specs.declared.jobs.PairTexts.{PairTexts}
+use Rattle.words.specs.declared.jobs.PairTexts.TheVariants.{Listed, Table}
 use Rattle.words.specs.Words.{ComesTwice, IsInput}
 
 one_of_two : (pairs : PairTexts) → ComesTwice false pairs → ComesTwice true pairs

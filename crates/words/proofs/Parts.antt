@@ -2,8 +2,8 @@
 use Rattle.std.proofs.Common.{◌≡◌, ℕ, List, [], Option, None, Some, inl, inr, ap, sym, subst, unwrap_or, arith}
 use Rattle.std.specs.Option.{ForSome}
 use Rattle.clap.specs.declared.parser.matches.Found.{Found}
-use Rattle.words.specs.declared.words.Job.{Job}
-use Rattle.words.specs.declared.words.Job.TheVariants.{Joint, Once, Route, Batch, Reach, Reached, Rehearse, Create, Apply, Ask, Serve, Copy}
+use Rattle.words.specs.declared.jobs.Job.{Job}
+use Rattle.words.specs.declared.jobs.Job.TheVariants.{Joint, Once, Route, Batch, Reach, Reached, Rehearse, Create, Apply, Ask, Serve, Copy}
 use Rattle.words.specs.Pipes.{ArePipesFit}
 use Rattle.words.specs.Words.{GivesNumber, GivesOr, GivesParts, HasFitParts, IsJournal, IsWidth, IsWorkers}
 

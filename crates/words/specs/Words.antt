@@ -6,13 +6,13 @@ use Rattle.std.specs.Str.Parse.{IsNumeral, digits_value, without_leading_plus}
 use lib.Chars.{codes}
 use Rattle.clap.specs.declared.parser.matches.Found.{Found}
 use Rattle.clap.specs.Words.{first_value, matched_of, one_text, raw_values}
-use Rattle.words.specs.declared.words.PairTexts.{PairTexts}
-use Rattle.words.specs.declared.words.PairTexts.TheVariants.{Listed, Table}
-use Rattle.words.specs.declared.words.Job.{Job}
-use Rattle.words.specs.declared.words.Job.TheVariants.{Joint, Once, Route, Batch, Reach, Reached, Rehearse, Create, Apply, Ask, Check, Serve, Migrate, Copy, Upgrade, Show, Export}
-use Rattle.words.specs.declared.words.ArcNumbers.{ArcNumbers}
-use Rattle.words.specs.declared.words.ArcNumbers.TheVariants.{Arc, Between}
-use Rattle.words.specs.declared.words.Usage.{Usage}
+use Rattle.words.specs.declared.jobs.PairTexts.{PairTexts}
+use Rattle.words.specs.declared.jobs.PairTexts.TheVariants.{Listed, Table}
+use Rattle.words.specs.declared.jobs.Job.{Job}
+use Rattle.words.specs.declared.jobs.Job.TheVariants.{Joint, Once, Route, Batch, Reach, Reached, Rehearse, Create, Apply, Ask, Check, Serve, Migrate, Copy, Upgrade, Show, Export}
+use Rattle.words.specs.declared.jobs.ArcNumbers.{ArcNumbers}
+use Rattle.words.specs.declared.jobs.ArcNumbers.TheVariants.{Arc, Between}
+use Rattle.words.specs.declared.usages.Usage.{Usage}
 use Rattle.words.specs.declared.pipes.PipePair.{PipePair}
 use Rattle.words.specs.declared.pipes.Misfit.{Misfit}
 use Rattle.words.specs.declared.pipes.Misfit.TheVariants.{MissingWord}

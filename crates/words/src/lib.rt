@@ -2,9 +2,18 @@
 #![tactic(auto)]
 
 mod commands;
+mod entries;
+mod helps;
+mod inputs;
+mod jobs;
+mod names;
 mod pipes;
+mod usages;
 mod words;
 
-pub use commands::MOST_JOURNAL_PAGES;
+pub use inputs::is_input;
+pub use jobs::{ArcNumbers, Job, PairTexts};
+pub use names::MOST_JOURNAL_PAGES;
 pub use pipes::{Misfit, PipePair, pairs_of, pipe_at};
-pub use words::{ArcNumbers, Asked, Job, MISUSE, PairTexts, Usage, is_input, read_words};
+pub use usages::{MISUSE, Usage};
+pub use words::{Asked, read_words};

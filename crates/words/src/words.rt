@@ -1,177 +1,32 @@
-//! The program's words.
-ghost use Rattle.std.specs.Prelude.{◌≡◌, ◌≢◌, ◌≤◌, ◌⊎◌, [], ◌∷◌, Some, None, false, IsOk, IfOk, IfErr, IfSome, option_map};
-ghost use Rattle.std.specs.Bool.{Decides};
+//! The program's words, read as a job.
+ghost use Rattle.std.specs.Prelude.{◌≡◌, ◌⊎◌, [], ◌∷◌, Some, None, false, IsOk, IfOk, IfErr, IfSome, option_map};
 ghost use Rattle.std.specs.Option.{ForSome};
 ghost use lib.Chars.{codes};
-ghost use Rattle.clap.specs.Words.{found_of, kind_of, subcommand_name_of};
+ghost use Rattle.clap.specs.Words.{found_of, subcommand_name_of};
 ghost use Rattle.words.specs.Pipes.{ArePipesFit, AreMisfit, ArePairs};
-ghost use Rattle.words.specs.Words.{delta_of, journal_pages_of, workers_of, pipes_of, pair_names, names_given, given_pairs, all_values, subcommand_of, ComesTwice, HasFitParts, GivesNumber, GivesOr, GivesArcs, GivesParts, GivesJob, GivesNoServer, GivesVerbose, Lacks, IsUpTo, IsWidth, IsJournal, IsWorkers, IsLong, IsUsage, IsInput, NamesInputTwice};
+ghost use Rattle.words.specs.Words.{delta_of, journal_pages_of, workers_of, pipes_of, pair_names, names_given, given_pairs, all_values, subcommand_of, HasFitParts, GivesNumber, GivesOr, GivesArcs, GivesParts, GivesJob, GivesNoServer, GivesVerbose, Lacks, IsUpTo, IsWidth, IsJournal, IsWorkers, IsLong, IsUsage, NamesInputTwice};
 
-use crate::commands::{
+use crate::commands::program;
+use crate::inputs::names_input_twice;
+use crate::jobs::{ArcNumbers, Job, PairTexts};
+use crate::names::{
     APPLY, ASK, ASKING, BATCH, CHECK, COMMANDS, COPIES, COPY, CREATE, DELTA, EXPORT, FILE, FOLDER,
     HEAD, JOURNAL, LANDMARKS, MIGRATE, MOST_JOURNAL_PAGES, MOST_PATIENCE, MOST_WIDTH, MOST_WORKERS,
     NETWORK, NEW, NUMBER, OLD, ONCE, PAIRS, PATIENCE, PIPES, REACH, REACHED, REHEARSE, ROOM, ROUTE,
     ROUTES, SCRIPT, SERVE, SHOW, SOURCE, SOURCES, STORE, TARGET, TARGETS, UPGRADE, VERBOSE, WITHIN,
-    WORKERS, program,
+    WORKERS,
 };
 use crate::pipes::{Misfit, PipePair, pairs_of};
-use clap::error::ErrorKind;
+use crate::usages::{Usage, usage_for, usage_of};
 use clap::{ArgMatches, Error};
-use std::alloc::{AllocError, Global};
+use std::alloc::Global;
 use std::convert::AsStr;
-
-/// The texts that give pairs of nodes. A name of a file is as it was written.
-#[derive(Clone, Copy, Debug)]
-pub enum PairTexts<'w> {
-    /// One that lists them.
-    Listed { pairs: &'w str },
-    /// One that lists sources, and one that lists targets: each source with each target.
-    Table { sources: &'w str, targets: &'w str },
-}
-
-/// The arcs that are looked at, by their numbers.
-#[derive(Clone, Copy, Debug)]
-pub enum ArcNumbers {
-    /// The arc of this number.
-    Arc { number: u64 },
-    /// All arcs from `tail` to `head`, closed ones too.
-    Between { tail: u64, head: u64 },
-}
-
-/// What the program is asked to do. A name of a file is as it was written.
-#[derive(Debug, Drop)]
-pub enum Job<'w> {
-    /// The joint form on standard input.
-    Joint {
-        delta: Option<u32>,
-    },
-    /// One distance in the network of a file.
-    Once {
-        network: &'w str,
-        source: u64,
-        target: u64,
-        delta: Option<u32>,
-    },
-    /// The arcs of one shortest walk in the network of a file.
-    Route {
-        network: &'w str,
-        source: u64,
-        target: u64,
-        delta: Option<u32>,
-    },
-    /// Pairs, in the network of a file.
-    Batch {
-        network: &'w str,
-        pairs: PairTexts<'w>,
-        delta: Option<u32>,
-    },
-    /// The nodes that walks from a node reach, in the network of a file.
-    Reach {
-        network: &'w str,
-        source: u64,
-        /// The greatest length that is told, if there is one.
-        within: Option<u64>,
-        delta: Option<u32>,
-    },
-    /// The nodes from which walks reach a node, in the network of a file.
-    Reached {
-        network: &'w str,
-        target: u64,
-        /// The greatest length that is told, if there is one.
-        within: Option<u64>,
-        delta: Option<u32>,
-    },
-    /// The script of one file, on a store in memory for the network of another.
-    Rehearse {
-        network: &'w str,
-        script: &'w str,
-        journal_pages: u32,
-        room: Option<u64>,
-        delta: Option<u32>,
-    },
-    /// A new store, for the network of one file with the landmarks of another.
-    Create {
-        store: &'w str,
-        network: &'w str,
-        landmarks: &'w str,
-        journal_pages: u32,
-        room: Option<u64>,
-    },
-    /// The commands of a file, on a store.
-    Apply {
-        store: &'w str,
-        commands: &'w str,
-        delta: Option<u32>,
-    },
-    /// Pairs, in the network of a store.
-    Ask {
-        store: &'w str,
-        pairs: PairTexts<'w>,
-        /// Whether the arcs of a shortest walk are told for each pair that is listed, and not its length.
-        routes: bool,
-        delta: Option<u32>,
-    },
-    /// How a store stands.
-    Check {
-        store: &'w str,
-    },
-    /// A session over a store, on standard input and output, and one with each client that comes by a pair of pipes.
-    Serve {
-        store: &'w str,
-        /// First those at which clients may change the network, and then those at which they ask alone.
-        pipes: Vec<PipePair<'w>>,
-        /// The folder in which copies are made, if they are.
-        copies: Option<&'w str>,
-        delta: Option<u32>,
-        workers: u32,
-        /// For how many seconds a version is waited for.
-        patience: u32,
-    },
-    /// A new store, of the store of another file.
-    Migrate {
-        old: &'w str,
-        new: &'w str,
-        room: Option<u64>,
-    },
-    /// A new store, of the store of another file brought from one map to another.
-    Upgrade {
-        store: &'w str,
-        old: &'w str,
-        network: &'w str,
-        new: &'w str,
-        room: Option<u64>,
-    },
-    /// A copy of a store in another file, with another room or journal if one is given.
-    Copy {
-        store: &'w str,
-        file: &'w str,
-        room: Option<u64>,
-        journal_pages: Option<u32>,
-    },
-    /// A look at the arcs of a store's network.
-    Show {
-        store: &'w str,
-        look: ArcNumbers,
-    },
-    /// The network of a store, written out as texts in a folder.
-    Export {
-        store: &'w str,
-        folder: &'w str,
-    },
-}
 
 /// What the words ask for: a job, and whether it is told on standard error how far it has come.
 #[derive(Debug, Drop)]
 pub struct Asked<'w> {
     pub job: Job<'w>,
     pub verbose: bool,
-}
-
-/// Why the words are no job: help was asked for (status 0), they were not understood (2), or memory ran out (1, without a text).
-#[derive(Debug, Drop)]
-pub struct Usage {
-    pub status: u8,
-    pub text: String,
 }
 
 /// The journal pages of a store where none are given.
@@ -182,72 +37,6 @@ const DEFAULT_WORKERS: u32 = 4;
 
 /// For how many seconds a version is waited for where none are given.
 const DEFAULT_PATIENCE: u32 = 30;
-
-/// The status of a command line that was not understood.
-pub const MISUSE: u8 = 2;
-
-/// How the line begins that says how an option that there is none of would be taken for a name.
-const NAME_TIP: &str = "\n  tip: to pass '";
-
-/// The text of a refusal of the words, without that line.
-fn text_of(alloc: Global, error: &Error) -> Result<String, AllocError> {
-    let text = format!(in alloc; "{error}")?;
-    let Some((before, tip)) = text.as_str().split_once(NAME_TIP) else {
-        return Ok(text);
-    };
-    match tip.split_once("\n") {
-        Some((_, after)) => format!(in alloc; "{}\n{after}", before.trim_end()),
-        None => Ok(text),
-    }
-}
-
-/// What a refusal of the words shows.
-fn usage_of(alloc: Global, error: &Error) -> Usage
-    ensures usage { IsUsage result }
-    ensures memory { kind_of error.now ≡ ErrorKind.OutOfMemory → result.status ≡ 1 }
-    ensures help { kind_of error.now ≡ ErrorKind.DisplayHelp → result.status ≤ 1 }
-    ensures version { kind_of error.now ≡ ErrorKind.DisplayVersion → result.status ≤ 1 }
-    ensures misuse { kind_of error.now ≢ ErrorKind.DisplayHelp → kind_of error.now ≢ ErrorKind.DisplayVersion → 1 ≤ result.status }
-{
-    if let ErrorKind::OutOfMemory = error.kind() {
-        return out_of_memory(alloc);
-    }
-    match text_of(alloc, error) {
-        Ok(text) => Usage {
-            status: if error.use_stderr() { MISUSE } else { 0 },
-            text,
-        },
-        Err(_) => out_of_memory(alloc),
-    }
-}
-
-fn out_of_memory(alloc: Global) -> Usage
-    ensures usage { IsUsage result }
-    ensures status { result.status ≡ 1 }
-{
-    Usage {
-        status: 1,
-        text: String::new(alloc),
-    }
-}
-
-/// What a refusal of words that were matched shows: a misuse, but where memory ran out.
-fn usage_for(alloc: Global, misfit: Misfit<'_>) -> Usage
-    ensures usage { IsUsage result }
-    ensures memory { misfit.entry ≡ Misfit.OutOfMemory → result.status ≡ 1 }
-    ensures misuse { misfit.entry ≢ Misfit.OutOfMemory → 1 ≤ result.status }
-{
-    if let Misfit::OutOfMemory = misfit {
-        return out_of_memory(alloc);
-    }
-    match format!(in alloc; "error: {misfit}\n\nFor more information, try '--help'.\n") {
-        Ok(text) => Usage {
-            status: MISUSE,
-            text,
-        },
-        Err(_) => out_of_memory(alloc),
-    }
-}
 
 /// The number that the word of this name gives, of 64 bits.
 fn number_in(matches: &ArgMatches<'_>, name: &str) -> Option<u64>
@@ -617,69 +406,6 @@ fn named_job_in<'w>(
     match plain_job_in(name, matches) {
         Some(job) => Ok(job),
         None => Err(Misfit::MissingWord),
-    }
-}
-
-/// What is written in place of a text's file for the standard input.
-const INPUT: &str = "-";
-
-/// Whether a text is the standard input.
-pub fn is_input(name: &str) -> bool
-    ensures { Decides result (IsInput name.now) }
-{
-    name == INPUT
-}
-
-/// Whether texts of pairs, or the text of a network beside them, are twice the standard input.
-fn pairs_name_input_twice(pairs: PairTexts<'_>, has_input: bool) -> bool
-    ensures { Decides result (ComesTwice has_input pairs.entry) }
-{
-    match pairs {
-        PairTexts::Listed { pairs } => has_input && is_input(pairs),
-        PairTexts::Table { sources, targets } => {
-            if has_input {
-                is_input(sources) || is_input(targets)
-            } else {
-                is_input(sources) && is_input(targets)
-            }
-        }
-    }
-}
-
-/// Whether a job names the standard input for two of its texts.
-fn names_input_twice(job: &Job<'_>) -> bool
-    ensures { Decides result (NamesInputTwice job.now) }
-{
-    match *job {
-        Job::Batch { network, pairs, .. } => pairs_name_input_twice(pairs, is_input(network)),
-        Job::Ask { pairs, .. } => pairs_name_input_twice(pairs, false),
-        Job::Rehearse {
-            network,
-            script: second,
-            ..
-        }
-        | Job::Create {
-            network,
-            landmarks: second,
-            ..
-        }
-        | Job::Upgrade {
-            old: network,
-            network: second,
-            ..
-        } => is_input(network) && is_input(second),
-        Job::Joint { .. }
-        | Job::Once { .. }
-        | Job::Route { .. }
-        | Job::Reach { .. }
-        | Job::Reached { .. }
-        | Job::Apply { .. }
-        | Job::Check { .. }
-        | Job::Serve { .. }
-        | Job::Migrate { .. }
-        | Job::Copy { .. }
-        | Job::Show { .. }
-        | Job::Export { .. } => false,
     }
 }
 

@@ -33,7 +33,7 @@ pub struct Shell<'a, R> {
     pub fails_at: usize,
     /// Each later one fails too.
     pub stays_failed: bool,
-    /// A second of the clock passes each time that it was asked so often; it tells no time if that is 0.
+    /// A second of the clock passes while it is asked so often, with the same part of it at each time; it tells no time if that is 0.
     pub asks_a_second: u64,
     // How often the clock was asked.
     pub(crate) asks: Cell<u64>,

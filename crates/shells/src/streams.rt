@@ -14,7 +14,8 @@ impl<R> Clock for Shell<'_, R> {
             return Err(io::Error::from(ErrorKind::Unsupported));
         }
         self.asks.set(self.asks.get().saturating_add(1));
-        Ok(Duration::from_secs(self.asks.get() / self.asks_a_second))
+        let millis = self.asks.get().saturating_mul(1000) / self.asks_a_second;
+        Ok(Duration::from_millis(millis))
     }
 
     fn since_1970(&self) -> io::Result<Duration> {

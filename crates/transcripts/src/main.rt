@@ -24,7 +24,7 @@
 //! | `read-fails` | the read behind the input fails |
 //! | `unwritable` | new files can't be written |
 //! | `slow` | each second read or write of a standard stream would have to wait |
-//! | `clock`, `clock=N` | the clock goes on by a second each time, or each N times, that it is asked; elsewhere it tells no time |
+//! | `clock`, `clock=N` | the clock goes on by a second, or by the N-th part of one, each time that it is asked; elsewhere it tells no time |
 //! | `mute` | nothing can be written to standard error |
 //! | `brief` | of each stream that has a text `...` is told in its place |
 //! | `errors-only` | standard output is left out of what is told |

@@ -68,6 +68,10 @@ def kill(path: str, clients: int, kills: int) -> bool:
         time.sleep(3)
         subprocess.run(["systemctl", "kill", "--signal=KILL", "roadmark.service"], check=True)
     time.sleep(4)
+    # On a machine that has much else to do some have not had a turn yet.
+    until = time.monotonic() + 60
+    while time.monotonic() < until and not all(writer.count for writer in writers):
+        time.sleep(0.2)
     for writer in writers:
         writer.is_over = True
     for writer in writers:

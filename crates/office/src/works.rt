@@ -1,11 +1,14 @@
 // A task outside the lock: its network, and the view that is built of it.
 ghost use Rattle.std.specs.Prelude.{◌≡◌, IfOk};
 ghost use Rattle.roadnet.specs.Ends.{KeepsEnds};
+ghost use Rattle.snapshot.specs.Blocks.{DiffersOnlyAt};
 
 use history::Front;
 use keeper::{GroupTask, carry_out_in_turn};
 use roadnet::{Network, OutOfMemory};
 use rows::View;
+use snapshot::changed_arcs;
+use std::alloc::Global;
 use std::marker::Model;
 use std::sync::Arc;
 
@@ -75,6 +78,15 @@ impl Work {
             return Err(OutOfMemory);
         }
         Ok(network)
+    }
+
+    /// The numbers of all arcs that are not the same in the network at the version as in the shown view's, and of those that are new. The only error is lack
+    /// of memory.
+    pub fn changed(&self, alloc: Global, newer: &Network) -> Result<Vec<u32>, OutOfMemory>
+        requires { newer.now ≡ self.now.network }
+        ensures { IfOk result (λ numbers. DiffersOnlyAt numbers.items self.now.before.network newer.now) }
+    {
+        changed_arcs(alloc, self.task.view.network(), newer, &self.task.groups)
     }
 
     /// The view, which is of the work's network and version, as `show` takes it. It takes no memory.

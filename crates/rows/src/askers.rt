@@ -237,7 +237,7 @@ impl<'a> Asker<'a> {
     }
 
     /// The open arcs of the network the other way round, grouped by the same width. `near` searches over them the nodes from which a node is reached. The
-    /// only error is lack of memory, for 8 bytes an open arc and 8 a node, and temporarily 16 an arc.
+    /// only error is lack of memory, for 8 bytes an open arc and 4 a node, and temporarily 20 an arc.
     pub fn turn(&self, alloc: Global) -> Result<Snapshot, OutOfMemory>
         ensures { IfOk result (IsSnapshotOf (reversed self.now.network)) }
     {

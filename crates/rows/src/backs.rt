@@ -37,7 +37,7 @@ fn number_all(alloc: Global, arcs: &[RoadArc]) -> Result<Vec<RoadArc>, OutOfMemo
 
 /// All arcs of a network, open or closed, grouped by their heads. The legs of a node are the tails of the arcs that lead to it, each with the arc's number in
 /// place of a length. So it serves this network, those from which it came by commands, and those that come from it until an arc is laid, whatever the
-/// lengths and whichever arcs are open. Its only error is lack of memory, for 8 bytes an arc and 8 a node, and temporarily 16 more an arc.
+/// lengths and whichever arcs are open. Its only error is lack of memory, for 8 bytes an arc and 4 a node, and temporarily 20 more an arc.
 pub fn numbered_back(alloc: Global, network: &Network) -> Result<Snapshot, OutOfMemory>
     ensures { IfOk result (LeadsBack network.now) }
 {

@@ -29,7 +29,7 @@ use std::thread::Threads;
 const VERSION: u64 = 0;
 
 /// How networks are asked once: with buckets of this width, or with the network's default if none is given, and with up to so many rows at once. Each call
-/// groups the network's open arcs, with 8 bytes an open arc and 8 a node.
+/// groups the network's open arcs, with 8 bytes an open arc and 4 a node.
 #[derive(Clone, Copy)]
 pub struct Searches {
     delta: Option<u32>,

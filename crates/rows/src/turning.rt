@@ -14,7 +14,7 @@ use std::alloc::Global;
 pub const WIDEST: u32 = 2_147_483_647;
 
 /// The open arcs of a network the other way round, grouped by this width, for searches of the walks to a node. Its only error is lack of memory, for 8
-/// bytes an open arc and 8 a node, and temporarily 16 an arc.
+/// bytes an open arc and 4 a node, and temporarily 20 an arc.
 pub fn turned_groups(alloc: Global, network: &Network, delta: u32) -> Result<Snapshot, OutOfMemory>
     requires delta { IsWidth delta }
     ensures network { OnOk result (IsNetwork network.now) }

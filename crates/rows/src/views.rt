@@ -1,6 +1,7 @@
 ghost use Rattle.std.specs.Prelude.{◌≡◌, ◌<◌, true, length, slice_index, unwrap_or, IfOk, IfSome};
 ghost use Rattle.std.specs.List.Sorted.{IsStrictlyIncreasing};
 ghost use Rattle.std.specs.Option.{ForSome};
+ghost use Rattle.snapshot.specs.Blocks.{AreArcsByBlock};
 ghost use Rattle.snapshot.specs.Groups.{IsSnapshotOf, default_width};
 ghost use Rattle.roadnet.specs.Members.{is_member};
 ghost use Rattle.roadnet.specs.Step.{is_landmark};
@@ -17,15 +18,16 @@ use crate::pinned::Pinned;
 use kept_rows::RowCache;
 use relax::Team;
 use roadnet::{Network, OutOfMemory};
-use snapshot::{Snapshot, default_delta};
+use snapshot::{ArcIndex, Snapshot, default_delta};
 use std::alloc::Global;
 use std::marker::Model;
 use std::sync::Arc;
 
 /// A network at a version, prepared for queries: its open arcs are grouped, and there is a row for each of its landmarks.
 ///
-/// Beside the network it takes 8 bytes an open arc, 8 a node for the groups, and 4 or 8 a node for each landmark. If it was given the arcs the other way
-/// round with their numbers, which views share, these take 8 bytes an arc and 8 a node.
+/// Beside the network it takes 8 bytes an open arc, 4 a node for the groups, and 4 or 8 a node for each landmark. If it was given the arcs the other way
+/// round with their numbers, which views share, these take 8 bytes an arc and 4 a node. If it was given the index of its arcs, which views share too, this
+/// takes 4 bytes an arc.
 #[derive(Drop)]
 pub struct View {
     version: u64,
@@ -34,10 +36,13 @@ pub struct View {
     rows: Vec<Row>,
     /// All arcs the other way round, with their numbers.
     back: Option<Arc<Snapshot>>,
+    /// Which arcs leave which tails.
+    index: Option<Arc<ArcIndex>>,
 }
 
 impl Model for View {
     ghost use Rattle.std.specs.Prelude.{◌≡◌};
+    ghost use Rattle.snapshot.specs.Blocks.{AreArcsByBlock};
     ghost use Rattle.snapshot.specs.Groups.{IsSnapshotOf};
     ghost use Rattle.std.specs.Option.{ForSome};
     ghost use Rattle.rows.specs.Backs.{LeadsBack};
@@ -47,7 +52,7 @@ impl Model for View {
 
     ghost view = { λ v. record { version = v.version; network = v.network; delta = v.snapshot.delta } };
 
-    ghost invariant = { λ v. IsSnapshotOf v.network v.snapshot × AreLandmarkRows v.version v.network v.rows.items × ForSome v.back (λ back. LeadsBack v.network back.value) };
+    ghost invariant = { λ v. IsSnapshotOf v.network v.snapshot × AreLandmarkRows v.version v.network v.rows.items × ForSome v.back (λ back. LeadsBack v.network back.value) × ForSome v.index (λ index. AreArcsByBlock v.network.nodes v.network.arcs index.value) };
 }
 
 /// The given width, otherwise the network's default.
@@ -134,6 +139,7 @@ impl View {
             snapshot,
             rows,
             back: None,
+            index: None,
         }
     }
 
@@ -154,6 +160,25 @@ impl View {
     {
         let back = self.back.as_ref()?;
         Arc::try_clone(back).ok()
+    }
+
+    /// The same view, with the index of its network's arcs.
+    pub fn with_index(self, index: Arc<ArcIndex>) -> View
+        requires { AreArcsByBlock self.network.nodes self.network.arcs index.value }
+        ensures { result ≡ self }
+    {
+        View {
+            index: Some(index),
+            ..self
+        }
+    }
+
+    /// A share of the index of its network's arcs, if it has one and a share can be made.
+    pub fn index(&self) -> Option<Arc<ArcIndex>>
+        ensures { ForSome result (λ index. AreArcsByBlock self.now.network.nodes self.now.network.arcs index.value) }
+    {
+        let index = self.index.as_ref()?;
+        Arc::try_clone(index).ok()
     }
 
     /// The version of the network.

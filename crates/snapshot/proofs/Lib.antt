@@ -5,3 +5,12 @@ pub mod Pieces
 pub mod Grouping
 pub mod Narrowing
 pub mod Built
+pub mod Joined
+pub mod Woven
+pub mod Grouped
+pub mod Indexed
+pub mod Unchanged
+pub mod Blocked
+pub mod Shared
+pub mod Differing
+pub mod Named

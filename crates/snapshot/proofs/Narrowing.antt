@@ -1,7 +1,7 @@
 -- The same legs for narrower buckets, parted as they were or all of a node's in its light part.
-use Rattle.std.proofs.Common.{◌≡◌, ◌∙◌, ◌⊎◌, ℕ, zero, suc, ◌+◌, ◌-◌, ◌*◌, ◌≤◌, ◌<◌, Bool, true, false, List, [], ◌∷◌, ◌++◌, get_or, Contains, refl, sym, subst, ap₂, arith, append-nil, ⊎_elim}
+use Rattle.std.proofs.Common.{◌≡◌, ◌∙◌, ℕ, zero, suc, ◌+◌, ◌-◌, ◌*◌, ◌≤◌, ◌<◌, Bool, true, false, List, [], ◌∷◌, ◌++◌, get_or, Contains, refl, sym, subst, ap₂, arith, append-nil, ⊎_elim}
 use Rattle.std.proofs.lemmas.List.Elements.{Contains-append_left, Contains-append_right, Contains-append_cases}
-use Rattle.snapshot.specs.Groups.{Groups, IsGrouped, IsNarrowed, all_legs, joined_parts, legs_of, parts_of, pieces}
+use Rattle.snapshot.specs.Groups.{Groups, IsGrouped, IsNarrowed, all_legs, joined_parts, legs_of, part_place, parts_of}
 use Rattle.snapshot.specs.declared.legs.Leg.{Leg}
 use Rattle.snapshot.specs.declared.legs.Part.{Part}
 use Rattle.snapshot.specs.declared.legs.Part.TheVariants.{Light, Heavy}
@@ -44,6 +44,12 @@ heavy_at (light ∷ []) (suc p) u e = refl
 heavy_at (light ∷ (heavy ∷ parts)) zero u e = absurd (omega (arith, e))
 heavy_at (light ∷ (heavy ∷ parts)) (suc zero) u e = refl
 heavy_at (light ∷ (heavy ∷ parts)) (suc (suc p)) u e = heavy_at parts p (u - 1) (omega (arith, e))
+
+-- what is read of the same parts is the same, narrowed or not
+pub parts_agree : (b : Bool) (xs ys : List (List Leg)) (u v : ℕ) → ((part : Part) → get_or xs (part_place part u) [] ≡ get_or ys (part_place part v) []) → (part : Part) → get_or (parts_of b xs) (part_place part u) [] ≡ get_or (parts_of b ys) (part_place part v) []
+parts_agree false xs ys u v same part = same part
+parts_agree true xs ys u v same Light = light_at xs (2 * u) u refl ∙ (ap₂ (λ (a b : List Leg). a ++ b) (same Light) (same Heavy) ∙ sym (light_at ys (2 * v) v refl))
+parts_agree true xs ys u v same Heavy = heavy_at xs (2 * u + 1) u refl ∙ sym (heavy_at ys (2 * v + 1) v refl)
 
 abbrev pub with_parts : ℕ → ℕ → ℕ → List (List Leg) → Groups
 with_parts nodes delta greatest parts = record { nodes = nodes; delta = delta; greatest = greatest; parts = parts }
@@ -117,18 +123,18 @@ module _ (nodes delta greatest narrow : ℕ) (parts : List (List Leg)) where
     legs = λ u. refl;
   }
 
-module _ (nodes delta greatest narrow : ℕ) (starts : List ℕ) (legs : List Leg) where
-  pub IsGrouped-narrowed : (b joins : Bool) → b ≡ false → IsGrouped (with_parts nodes delta greatest (parts_of b starts legs)) → 1 ≤ narrow → narrow ≤ delta → IsGrouped (with_parts nodes narrow greatest (parts_of joins starts legs))
-  IsGrouped-narrowed false false e grouped positive less = IsGrouped-parted nodes delta greatest narrow (pieces starts legs) grouped positive less
-  IsGrouped-narrowed false true e grouped positive less = IsGrouped-joined nodes delta greatest narrow (pieces starts legs) grouped positive
+module _ (nodes delta greatest narrow : ℕ) (parts : List (List Leg)) where
+  pub IsGrouped-narrowed : (b joins : Bool) → b ≡ false → IsGrouped (with_parts nodes delta greatest (parts_of b parts)) → 1 ≤ narrow → narrow ≤ delta → IsGrouped (with_parts nodes narrow greatest (parts_of joins parts))
+  IsGrouped-narrowed false false e grouped positive less = IsGrouped-parted nodes delta greatest narrow parts grouped positive less
+  IsGrouped-narrowed false true e grouped positive less = IsGrouped-joined nodes delta greatest narrow parts grouped positive
   IsGrouped-narrowed true joins e grouped positive less = absurd (let absurdity : ⊥ = cc in absurdity)
 
-  pub IsNarrowed-of : (b joins : Bool) → b ≡ false → narrow ≤ delta → IsNarrowed (with_parts nodes delta greatest (parts_of b starts legs)) (with_parts nodes narrow greatest (parts_of joins starts legs))
-  IsNarrowed-of false false e less = IsNarrowed-parted nodes delta greatest narrow (pieces starts legs) less
-  IsNarrowed-of false true e less = IsNarrowed-joined nodes delta greatest narrow (pieces starts legs) less
+  pub IsNarrowed-of : (b joins : Bool) → b ≡ false → narrow ≤ delta → IsNarrowed (with_parts nodes delta greatest (parts_of b parts)) (with_parts nodes narrow greatest (parts_of joins parts))
+  IsNarrowed-of false false e less = IsNarrowed-parted nodes delta greatest narrow parts less
+  IsNarrowed-of false true e less = IsNarrowed-joined nodes delta greatest narrow parts less
   IsNarrowed-of true joins e less = absurd (let absurdity : ⊥ = cc in absurdity)
 
   -- no leg is a heavy one
-  pub none_is_heavy : (b : Bool) → b ≡ true → (u : ℕ) → legs_of (with_parts nodes delta greatest (parts_of b starts legs)) Heavy u ≡ []
+  pub none_is_heavy : (b : Bool) → b ≡ true → (u : ℕ) → legs_of (with_parts nodes delta greatest (parts_of b parts)) Heavy u ≡ []
   none_is_heavy false e u = absurd (let absurdity : ⊥ = cc in absurdity)
-  none_is_heavy true e u = heavy_is nodes delta greatest delta (pieces starts legs) u
+  none_is_heavy true e u = heavy_is nodes delta greatest delta parts u

@@ -1,2 +1,4 @@
+pub mod Blocks
+pub mod Changes
 pub mod Groups
 pub mod Places

@@ -29,8 +29,8 @@ use std::thread::Threads;
 /// A supposed network: a copy of a network at some version, with a group of commands carried out. Its owner does not share it: later changes of the
 /// original network do not change it, and questions to it change nothing elsewhere.
 ///
-/// It takes what a network takes; 8 bytes an open arc and 8 a node for the groups of its arcs; as much again for the reversed arcs, once it was asked what
-/// reaches a node; 8 an arc and 8 a node for all arcs reversed with their numbers, once it was asked for a route, unless it was given those of the original
+/// It takes what a network takes; 8 bytes an open arc and 4 a node for the groups of its arcs; as much again for the reversed arcs, once it was asked what
+/// reaches a node; 8 an arc and 4 a node for all arcs reversed with their numbers, once it was asked for a route, unless it was given those of the original
 /// network; 4 or 8 a node for one row, that of a source that was asked twice; and the memory of two searches. It has no rows of landmarks.
 #[derive(Drop)]
 pub struct Supposed {

@@ -91,7 +91,7 @@ impl<S: Served> Handle<S> {
 
     /// The reply to a question for a route in a view of this desk, as `routes::answer_route` gives it: by a row of the source that is kept for all callers, or
     /// by that of a landmark; otherwise by a search that ends at the target. It keeps no row. The arcs turned round with their numbers are those of the view.
-    /// If it has none, they are made at the first question, take 8 bytes an arc and 8 a node, and are kept for all callers. No lock is held during the search.
+    /// If it has none, they are made at the first question, take 8 bytes an arc and 4 a node, and are kept for all callers. No lock is held during the search.
     ///
     /// The only error is lack of memory. What is refused takes none.
     pub fn route(

@@ -5,6 +5,7 @@ pub(crate) mod building;
 pub(crate) mod flushing;
 pub(crate) mod last;
 mod leaves;
+mod older;
 pub(crate) mod plans;
 mod repairs;
 mod row_workers;

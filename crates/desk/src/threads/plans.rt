@@ -1,22 +1,23 @@
 // How the view of a task is built.
 ghost use Rattle.std.specs.Prelude.{◌≡◌, ◌≤◌, IfOk, unwrap_or};
 ghost use Rattle.std.specs.Option.{ForSome};
-ghost use Rattle.roadnet.specs.Ends.{KeepsEnds};
 ghost use Rattle.rows.specs.Backs.{LeadsBack};
 ghost use Rattle.rows.specs.Kept.{IsWidth};
 ghost use Rattle.rows.specs.Views.{AreLandmarkRows};
+ghost use Rattle.snapshot.specs.Blocks.{AreArcsByBlock};
 ghost use Rattle.snapshot.specs.Groups.{IsSnapshotOf, default_width};
-ghost use Rattle.desk.specs.Repairs.{LeadBackTo};
+ghost use Rattle.desk.specs.Repairs.{IsOlder, LeadBackTo};
 
 use crate::gates::{Gate, NoGate};
 use crate::threads::last::{UNKNOWN, Unbuilt};
+use crate::threads::older::{Grouped, Older, groups_after};
 use crate::threads::repairs::Before;
 use crate::threads::row_workers::{RowJob, landmark_rows};
 use disk::Disk;
 use office::Work;
 use roadnet::{Network, OutOfMemory};
 use rows::{Row, View, numbered_back};
-use snapshot::{Snapshot, default_delta};
+use snapshot::{ArcIndex, Snapshot};
 use std::alloc::Global;
 use std::sync::Arc;
 use std::sync::atomic::AtomicU64;
@@ -38,11 +39,11 @@ pub(crate) struct Plan {
 
 /// All arcs of a network the other way round, with their numbers: those of an older view, if no arc was laid since; otherwise they are grouped anew. Nothing
 /// if no older view is given, or if there is no memory.
-fn back_after(alloc: Global, old: Option<&View>, network: &Network) -> Option<Arc<Snapshot>>
-    requires { ForSome old (λ old. KeepsEnds old.now.network network.now) }
+fn back_after(alloc: Global, old: Option<Older<'_>>, network: &Network) -> Option<Arc<Snapshot>>
+    requires { ForSome old (IsOlder network.now) }
     ensures { ForSome result (λ back. LeadsBack network.now back.value) }
 {
-    let old = old?;
+    let old = old?.view;
     if old.network().arcs().len() == network.arcs().len() {
         if let Some(back) = old.back() {
             return Some(back);
@@ -71,20 +72,33 @@ fn lent<'a>(
     }
 }
 
-/// The view of these parts, with the reversed arcs, if they are given.
+/// The same view, with the index of its network's arcs, if it is given.
+fn with_index(view: View, index: Option<Arc<ArcIndex>>) -> View
+    requires { ForSome index (λ index. AreArcsByBlock view.network.nodes view.network.arcs index.value) }
+    ensures { result ≡ view }
+{
+    match index {
+        Some(index) => view.with_index(index),
+        None => view,
+    }
+}
+
+/// The view of these parts, with the index of its arcs and the reversed arcs, if they are given.
 fn assembled(
     version: u64,
     network: Network,
-    snapshot: Snapshot,
+    grouped: Grouped,
     rows: Vec<Row>,
     back: Option<Arc<Snapshot>>,
 ) -> View
-    requires snapshot { IsSnapshotOf network snapshot }
+    requires groups { IsSnapshotOf network grouped.snapshot }
     requires rows { AreLandmarkRows version network rows.items }
+    requires index { ForSome grouped.index (λ index. AreArcsByBlock network.nodes network.arcs index.value) }
     requires back { ForSome back (λ back. LeadsBack network back.value) }
-    ensures { result ≡ record { version = version; network = network; delta = snapshot.delta } }
+    ensures { result ≡ record { version = version; network = network; delta = grouped.snapshot.delta } }
 {
-    let view = View::assemble(version, network, snapshot, rows);
+    let Grouped { snapshot, index } = grouped;
+    let view = with_index(View::assemble(version, network, snapshot, rows), index);
     match back {
         Some(back) => view.with_back(back),
         None => view,
@@ -101,20 +115,18 @@ impl Plan {
         last: &AtomicU64,
         version: u64,
         network: Network,
-        old: Option<&View>,
+        old: Option<Older<'_>>,
     ) -> Result<Arc<View>, Unbuilt>
-        requires { ForSome old (λ old. KeepsEnds old.now.network network) }
+        requires { ForSome old (IsOlder network) }
         ensures version { IfOk result (λ view. view.value.version ≡ version) }
         ensures network { IfOk result (λ view. view.value.network ≡ network) }
         ensures width { IfOk result (λ view. view.value.delta ≡ unwrap_or self.now.delta (default_width network)) }
     {
-        let width = match self.delta {
-            Some(width) => width,
-            None => default_delta(&network),
-        };
         let back = back_after(self.alloc, old, &network);
-        let snapshot = Snapshot::build(self.alloc, &network, width)?;
-        let before = Before::of(self.alloc, old, &snapshot, lent(&back, &network, &snapshot));
+        let grouped = groups_after(self.alloc, self.delta, old, &network)?;
+        let snapshot = &grouped.snapshot;
+        let lent = lent(&back, &network, snapshot);
+        let before = Before::of(self.alloc, old, &network, snapshot, lent);
         let rows = landmark_rows(
             rt,
             &RowJob {
@@ -123,13 +135,13 @@ impl Plan {
                 last,
                 version,
                 network: &network,
-                snapshot: &snapshot,
+                snapshot,
                 before: before.as_ref(),
                 workers: self.workers,
             },
         )?;
         drop(before);
-        let view = assembled(version, network, snapshot, rows, back);
+        let view = assembled(version, network, grouped, rows, back);
         match Arc::new(self.alloc, view) {
             Ok(view) => Ok(view),
             Err(_) => Err(Unbuilt::OutOfMemory),
@@ -149,7 +161,12 @@ impl Plan {
         ensures width { IfOk result (λ view. view.value.delta ≡ unwrap_or self.now.delta (default_width work.now.network)) }
     {
         let network = work.network()?;
-        self.view_of(rt, gate, last, work.version(), network, Some(work.shown()))
+        let changed = work.changed(self.alloc, &network)?;
+        let shown = Older {
+            view: work.shown(),
+            changed: &changed,
+        };
+        self.view_of(rt, gate, last, work.version(), network, Some(shown))
     }
 
     /// The view of a store's network, made without a call of a gate. The only error is lack of memory.

@@ -1,0 +1,113 @@
+// What the groups of a view are made from: those of an older view.
+ghost use Rattle.std.specs.Prelude.{◌≡◌, IfOk, IfSome};
+ghost use Rattle.std.specs.Option.{ForSome};
+ghost use Rattle.rows.specs.Kept.{IsWidth};
+ghost use Rattle.snapshot.specs.Blocks.{AreArcsByBlock};
+ghost use Rattle.snapshot.specs.Groups.{IsSnapshotOf};
+ghost use Rattle.deltastep.specs.Repair.{AreChanged};
+ghost use Rattle.desk.specs.Repairs.{AreGroupedBy, IsOlder};
+
+use deltastep::changed_nodes;
+use roadnet::{Network, OutOfMemory};
+use rows::View;
+use snapshot::{ArcIndex, Snapshot, default_delta, tails_of};
+use std::alloc::Global;
+use std::sync::Arc;
+
+/// An older view, and the numbers of all arcs that are new since or not the same.
+#[derive(Clone, Copy)]
+pub(crate) struct Older<'a> {
+    pub(crate) view: &'a View,
+    pub(crate) changed: &'a [u32],
+}
+
+/// The groups of a network's open arcs, and the index of its arcs, if it was made or taken over.
+#[derive(Drop)]
+pub(crate) struct Grouped {
+    pub(crate) snapshot: Snapshot,
+    pub(crate) index: Option<Arc<ArcIndex>>,
+}
+
+/// The index of a network's arcs: that of an older view, if it has one and no arc was laid since; otherwise it is made anew. The only error is lack of memory.
+fn index_after(
+    alloc: Global,
+    old: Older<'_>,
+    network: &Network,
+) -> Result<Arc<ArcIndex>, OutOfMemory>
+    requires { IsOlder network.now old }
+    ensures { IfOk result (λ index. AreArcsByBlock network.now.nodes network.now.arcs index.value) }
+{
+    if old.view.network().arcs().len() == network.arcs().len()
+        && let Some(index) = old.view.index()
+    {
+        return Ok(index);
+    }
+    let index = ArcIndex::build(alloc, network)?;
+    match Arc::new(alloc, index) {
+        Ok(index) => Ok(index),
+        Err(_) => Err(OutOfMemory),
+    }
+}
+
+/// The groups of a network by this width, or by its default if none is given. Those of an older view that has that width are taken over, but for the blocks of
+/// the arcs that changed; otherwise all are made anew. The index is kept once there is an older view: before any change it is not worth its memory. The only
+/// error is lack of memory.
+pub(crate) fn groups_after(
+    alloc: Global,
+    delta: Option<u32>,
+    old: Option<Older<'_>>,
+    network: &Network,
+) -> Result<Grouped, OutOfMemory>
+    requires delta { ForSome delta IsWidth }
+    requires old { ForSome old (IsOlder network.now) }
+    ensures { IfOk result (AreGroupedBy network.now delta) }
+{
+    let Some(old) = old else {
+        let width = match delta {
+            Some(width) => width,
+            None => default_delta(network),
+        };
+        let snapshot = Snapshot::build(alloc, network, width)?;
+        return Ok(Grouped {
+            snapshot,
+            index: None,
+        });
+    };
+    let index = index_after(alloc, old, network)?;
+    let before = old.view.snapshot();
+    let mut snapshot = before.after(alloc, network, &index, old.changed)?;
+    let width = match delta {
+        Some(width) => width,
+        None => snapshot.default_delta(),
+    };
+    if width != snapshot.delta() {
+        snapshot = Snapshot::build_by(alloc, network, &index, width)?;
+    }
+    Ok(Grouped {
+        snapshot,
+        index: Some(index),
+    })
+}
+
+impl Older<'_> {
+    /// The nodes that may have other legs in the newer snapshot: the tails of the arcs that changed, if the widths are the same; otherwise they are looked for.
+    /// Nothing if there is no memory.
+    pub(crate) fn changed_tails(
+        &self,
+        alloc: Global,
+        network: &Network,
+        before: &Snapshot,
+        snapshot: &Snapshot,
+    ) -> Option<Vec<u32>>
+        requires older { IsOlder network.now self.now }
+        requires before { IsSnapshotOf self.now.view.now.network before.now }
+        requires snapshot { IsSnapshotOf network.now snapshot.now }
+        requires nodes { before.now.nodes ≡ snapshot.now.nodes }
+        ensures { IfSome result (λ nodes. AreChanged before.now snapshot.now nodes.items) }
+    {
+        if before.delta() == snapshot.delta() {
+            return tails_of(alloc, network, self.changed).ok();
+        }
+        changed_nodes(alloc, before, snapshot).ok()
+    }
+}

@@ -1,0 +1,41 @@
+use fixtures::six;
+use roadnet::{Command, Group, Refusal};
+use snapshot::{ArcIndex, Part, Snapshot, changed_arcs, tails_of};
+use std::alloc::Global;
+use std::array::from_ref;
+
+/// How many legs two snapshots have of the nodes up to 6, and whether they are the same.
+fn compare(one: &Snapshot, other: &Snapshot) -> (usize, bool) {
+    let mut count = 0usize;
+    let mut same = true;
+    for node in 0..7 {
+        for part in [Part::Light, Part::Heavy] {
+            let (legs, others) = (one.legs(node, part), other.legs(node, part));
+            count = count.saturating_add(legs.len());
+            same = same && legs == others;
+        }
+    }
+    (count, same)
+}
+
+/// How many arcs a group changes, how many nodes they leave, how many legs the snapshot after it has, and whether one made anew has the same.
+fn closed(alloc: Global) -> Result<(usize, usize, (usize, bool)), Refusal> {
+    let older = six(alloc)?;
+    let mut newer = older.copy()?;
+    let group = Group::one(Command::Close { arc: 7 });
+    newer.apply_group(&group)?;
+    let numbers = changed_arcs(alloc, &older, &newer, from_ref(&group))?;
+    let tails = tails_of(alloc, &newer, &numbers)?;
+    let before = Snapshot::build(alloc, &older, 5)?;
+    let index = ArcIndex::build(alloc, &newer)?;
+    let after = before.after(alloc, &newer, &index, &numbers)?;
+    let anew = Snapshot::build(alloc, &newer, 5)?;
+    Ok((numbers.len(), tails.len(), compare(&after, &anew)))
+}
+
+/// One arc is named, and one node loses its leg. Refused is a list with arcs that are the same.
+#[test]
+fn snapshot_after_a_change(rt: HostRuntime) {
+    let found = closed(rt.alloc()).expect(&rt, "the group is admitted");
+    assert!(rt; found == (1, 1, (7, true)));
+}

@@ -1,0 +1,15 @@
+use Rattle.std.proofs.Common.{Bool, sym, subst}
+use Rattle.std.specs.List.{flat_map}
+use Rattle.snapshot.specs.Groups.{IsSnapshotOf, legs_of, parts_of}
+use Rattle.snapshot.proofs.Shared.{parts_in, still_groups}
+use Rattle.snapshot.proofs.groups.Snapshot.after.Goals as goal
+
+pub blocks_after-requires-clause-untouched : goal.blocks_after-requires-clause-untouched
+unfolding legs_of
+blocks_after-requires-clause-untouched c =
+    let s = c.self.inside in
+    let (old, was, keeps, only) = c.requires.before in
+    let seen : IsSnapshotOf old (record { nodes = s.nodes; delta = s.delta; greatest = s.greatest; parts = parts_of s.joined (flat_map parts_in s.blocks.value.items) }) = subst (IsSnapshotOf old) (sym c.self.view_is) was in
+    let whole : IsSnapshotOf old (record { nodes = s.nodes; delta = s.delta; greatest = s.greatest; parts = flat_map parts_in s.blocks.value.items }) = subst (λ (b : Bool). IsSnapshotOf old (record { nodes = s.nodes; delta = s.delta; greatest = s.greatest; parts = parts_of b (flat_map parts_in s.blocks.value.items) })) c.if-self.false seen in
+    rw (c.deref-4.ensures.value, c.deref-3.ensures, c.deref-6.ensures.value, c.arcs-arcs.ensures.value)
+    (still_groups old c.args.network.now c.args.changed.now keeps only s.delta s.blocks.value.items whole.legs c.in_ok-touched.touched.items (rw c.arcs-arcs.ensures.value at c.in_ok-touched.ensures.touched))

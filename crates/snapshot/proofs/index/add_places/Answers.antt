@@ -1,0 +1,18 @@
+use Rattle.std.proofs.Common.{◌∙◌, ℕ, ◌/◌, false, get_or, refl, arith}
+use Rattle.std.proofs.lemmas.List.{length-set}
+use Rattle.roadnet.specs.declared.arcs.RoadArc.{RoadArc}
+use Rattle.snapshot.proofs.Indexed.{file_more}
+use Rattle.snapshot.proofs.index.add_places.Goals as goal
+
+abbrev no_arc : RoadArc
+no_arc = record { tail = 0; head = 0; length = 0; opened = false }
+
+pub loop-place-preserved : goal.loop-place-preserved
+loop-place-preserved c =
+    let tail = c.requires.tails c.loop-place.place no_arc (omega (arith, c.loop-place-test.true)) in
+    let block : ℕ = (get_or c.args.arcs.now c.loop-place.place no_arc).tail / 1024 in
+    let long = length-set c.loop-place.lists ((get_or c.args.arcs.now c.loop-place.place no_arc).tail / 1024) c.push.new.self in
+    record {
+      blocks = long ∙ c.loop-place.invariant.blocks;
+      added = λ block h. file_more (λ list. list.items) c.loop-place.lists c.push.new.self c.args.arcs.now c.loop-place.place ((get_or c.args.arcs.now c.loop-place.place no_arc).tail / 1024) no_arc (omega (arith, c.loop-place-test.true)) refl (omega (arith, tail, c.loop-place.invariant.blocks)) c.index-lists-block.result c.in_ok-push.ensures.items block (c.loop-place.invariant.added block (omega (arith, h, long)));
+    }

@@ -1,0 +1,9 @@
+use Rattle.std.proofs.Common.{◌≡◌, length, map}
+use Rattle.snapshot.specs.Blocks.{AreBlocksOf, block_parts}
+use Rattle.snapshot.proofs.regrouping.all_blocks.Given as goal
+
+abbrev pub invariant-loop-places : goal.invariant-loop-places
+invariant-loop-places l = record {
+  count : length l.blocks.items ≡ l.places-index;
+  each : AreBlocksOf l.arcs l.delta (map (λ block. block_parts block.value.starts block.value.legs.items) l.blocks.items);
+}

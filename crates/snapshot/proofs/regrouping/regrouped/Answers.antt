@@ -1,0 +1,34 @@
+use Rattle.std.proofs.Common.{◌≡◌, ◌∙◌, ◌+◌, ◌<◌, ◌≤◌, false, List, length, get_or, map, ap, sym, subst, arith}
+use Rattle.std.specs.List.{All}
+use Rattle.std.proofs.lemmas.List.{length-map}
+use Rattle.std.proofs.lemmas.List.Elements.{All-map}
+use Rattle.roadnet.specs.declared.arcs.RoadArc.{RoadArc}
+use Rattle.snapshot.specs.Blocks.{AreBlockParts, arcs_of_block, block_parts, within_block}
+use Rattle.snapshot.specs.declared.blocks.Block.{Block}
+use Rattle.snapshot.proofs.Indexed.{places-below, length-places, arcs_at_places}
+use Rattle.snapshot.proofs.regrouping.regrouped.Goals as goal
+
+abbrev no_arc : RoadArc
+no_arc = record { tail = 0; head = 0; length = 0; opened = false }
+
+pub find_arcs-requires : goal.find_arcs-requires
+find_arcs-requires c = let (block, is) = c.requires.places in subst (All (λ k. k < length c.args.arcs.now)) (sym is) (places-below block 0 (length c.args.arcs.now) c.args.arcs.now (omega arith))
+
+pub group-requires-clause-few : goal.group-requires-clause-few
+group-requires-clause-few c =
+    let (block, is) = c.requires.places in
+    let long : length c.find_arcs.new.found.items ≡ length c.args.places.now = ap length (c.in_ok-find_arcs.ensures no_arc) ∙ length-map c.args.places.now (λ place. within_block (get_or c.args.arcs.now place no_arc)) in
+    omega (arith, long, ap length is, length-places block 0 c.args.arcs.now, ap length c.deref.ensures.value, c.requires.few)
+
+pub group-requires-clause-tails : goal.group-requires-clause-tails
+group-requires-clause-tails c =
+    rw (c.deref.ensures.value, c.in_ok-find_arcs.ensures no_arc)
+    (All-map (λ (a : RoadArc). a.tail ≤ 1023) (λ place. within_block (get_or c.args.arcs.now place no_arc)) c.args.places.now (λ k d h. omega arith))
+
+pub returns : goal.returns
+returns c block is =
+    let found : c.deref.result.now ≡ arcs_of_block block c.args.arcs.now = c.deref.ensures.value ∙ (c.in_ok-find_arcs.ensures no_arc ∙ (ap (map (λ place. within_block (get_or c.args.arcs.now place no_arc))) is ∙ arcs_at_places c.args.arcs.now block 0 c.args.arcs.now no_arc (λ k h.
+    let e : 0 + k ≡ k = omega arith in
+    ap (λ n. get_or c.args.arcs.now n no_arc) e))) in
+    subst (λ (arcs : List RoadArc). AreBlockParts arcs c.args.delta (block_parts c.in_ok-new.field-0.value.starts c.in_ok-new.field-0.value.legs.items)) found
+    (subst (λ (b : Block). AreBlockParts c.deref.result.now c.args.delta (block_parts b.starts b.legs.items)) (sym c.in_ok-new.ensures.ok) c.in_ok-block.ensures)

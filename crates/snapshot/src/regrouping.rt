@@ -1,0 +1,180 @@
+//! The blocks of a network's arcs, all of them anew, or those alone whose arcs changed.
+
+ghost use Rattle.std.specs.Prelude.{◌≡◌, ℕ, ◌+◌, ◌/◌, ◌*◌, ◌≤◌, ◌<◌, ◌^◌, [], true, false, All, IfOk, OnOk, Contains, fold, length, map, max, slice_index_or};
+ghost use Rattle.roadnet.specs.declared.arcs.RoadArc.{RoadArc as road_arc};
+ghost use Rattle.snapshot.specs.Blocks.{AreBlockParts, AreBlocksOf, arcs_of_block, block_parts, places_of_block, within_block};
+
+use crate::blocks::{BLOCK, Block};
+use roadnet::RoadArc;
+use std::alloc::{AllocError, Global};
+use std::sync::Arc;
+
+/// The arc, its tail counted from the first one of its block.
+fn within_block(arc: &RoadArc) -> RoadArc
+    ensures { result ≡ within_block arc.now }
+{
+    RoadArc {
+        tail: arc.tail % BLOCK,
+        head: arc.head,
+        length: arc.length,
+        opened: arc.opened,
+    }
+}
+
+/// The arcs at these places, their tails counted from the first one of their block, in a list whose earlier content is lost.
+fn find_arcs(found: &mut Vec<RoadArc>, arcs: &[RoadArc], places: &[u32]) -> Result<(), AllocError>
+    requires { All (λ place. place < length arcs.now) places.now }
+    ensures { OnOk result ((d : road_arc) → found.new.items ≡ map (λ place. within_block (slice_index_or arcs.now place d)) places.now) }
+{
+    found.clear();
+    for &place in places {
+        found.push(within_block(&arcs[place as usize]))?;
+    }
+    Ok(())
+}
+
+/// The arcs of a block, at whose places they are, grouped. The list is for the time being.
+fn regrouped(
+    alloc: Global,
+    arcs: &[RoadArc],
+    places: &[u32],
+    delta: u32,
+    found: &mut Vec<RoadArc>,
+) -> Result<Arc<Block>, AllocError>
+    requires few { length arcs.now ≤ 2 ^ 26 }
+    requires places { (block : ℕ) × (places.now ≡ places_of_block block 0 arcs.now) }
+    ensures { IfOk result (λ made. (block : ℕ) → places.now ≡ places_of_block block 0 arcs.now → AreBlockParts (arcs_of_block block arcs.now) delta (block_parts made.value.starts made.value.legs.items)) }
+{
+    find_arcs(found, arcs, places)?;
+    let block = Block::group(alloc, found, delta)?;
+    Ok(Arc::new(alloc, block)?)
+}
+
+/// The blocks of all arcs.
+pub(crate) fn all_blocks(
+    alloc: Global,
+    arcs: &[RoadArc],
+    index: &[Vec<u32>],
+    delta: u32,
+) -> Result<Vec<Arc<Block>>, AllocError>
+    requires few { length arcs.now ≤ 2 ^ 26 }
+    requires index { (block : ℕ) → block < length index.now → slice_index_or (map (λ places. places.items) index.now) block [] ≡ places_of_block block 0 arcs.now }
+    ensures count { IfOk result (λ blocks. length blocks.items ≡ length index.now) }
+    ensures each { IfOk result (λ blocks. AreBlocksOf arcs.now delta (map (λ block. block_parts block.value.starts block.value.legs.items) blocks.items)) }
+{
+    let mut blocks = Vec::with_capacity(alloc, index.len())?;
+    let mut found = Vec::new(alloc);
+    for places in index {
+        blocks.push(regrouped(alloc, arcs, places, delta, &mut found)?)?;
+    }
+    Ok(blocks)
+}
+
+/// Marks the block of the arc of this number, if there is one.
+fn touch(touched: &mut [bool], arcs: &[RoadArc], number: u32)
+    requires tails { All (λ arc. arc.tail < length touched.old * 1024) arcs.now }
+    ensures own { (place : ℕ) (d : road_arc) → place < length arcs.now → place + 1 ≡ number → slice_index_or touched.new ((slice_index_or arcs.now place d).tail / 1024) true ≡ true }
+    ensures kept { (block : ℕ) → slice_index_or touched.old block true ≡ true → slice_index_or touched.new block true ≡ true }
+    ensures count { length touched.new ≡ length touched.old }
+{
+    if 1 <= number && number as usize <= arcs.len() {
+        let tail = arcs[number as usize - 1].tail;
+        touched[(tail / BLOCK) as usize] = true;
+    }
+}
+
+/// Which of so many blocks are touched, if these arcs change.
+pub(crate) fn touched_blocks(
+    alloc: Global,
+    arcs: &[RoadArc],
+    changed: &[u32],
+    count: usize,
+) -> Result<Vec<bool>, AllocError>
+    requires tails { All (λ arc. arc.tail < count * 1024) arcs.now }
+    ensures count { IfOk result (λ touched. length touched.items ≡ count) }
+    ensures touched { IfOk result (λ touched. (place : ℕ) (d : road_arc) → place < length arcs.now → Contains changed.now (place + 1) → slice_index_or touched.items ((slice_index_or arcs.now place d).tail / 1024) true ≡ true) }
+{
+    let mut touched = vec![in alloc; false; count]?;
+    for &number in changed {
+        touch(&mut touched, arcs, number);
+    }
+    Ok(touched)
+}
+
+/// The arcs of a block, at whose places they are: grouped anew where the block is touched, else the older block, which is shared.
+fn next_block(
+    alloc: Global,
+    old: &Arc<Block>,
+    arcs: &[RoadArc],
+    places: &[u32],
+    delta: u32,
+    touched: bool,
+    found: &mut Vec<RoadArc>,
+) -> Result<Arc<Block>, AllocError>
+    requires few { length arcs.now ≤ 2 ^ 26 }
+    requires places { (block : ℕ) × (places.now ≡ places_of_block block 0 arcs.now) }
+    ensures { IfOk result (λ made. (block : ℕ) → places.now ≡ places_of_block block 0 arcs.now → (touched ≡ false → AreBlockParts (arcs_of_block block arcs.now) delta (block_parts old.now.value.starts old.now.value.legs.items)) → AreBlockParts (arcs_of_block block arcs.now) delta (block_parts made.value.starts made.value.legs.items)) }
+{
+    if touched {
+        return regrouped(alloc, arcs, places, delta, found);
+    }
+    Arc::try_clone(old)
+}
+
+/// The blocks of all arcs, out of older ones that are theirs where they are not touched.
+pub(crate) fn blocks_after(
+    alloc: Global,
+    old: &[Arc<Block>],
+    arcs: &[RoadArc],
+    index: &[Vec<u32>],
+    delta: u32,
+    touched: &[bool],
+) -> Result<Vec<Arc<Block>>, AllocError>
+    requires few { length arcs.now ≤ 2 ^ 26 }
+    requires index { (block : ℕ) → block < length index.now → slice_index_or (map (λ places. places.items) index.now) block [] ≡ places_of_block block 0 arcs.now }
+    requires blocks { length index.now ≡ length old.now }
+    requires flags { length touched.now ≡ length old.now }
+    requires untouched { (block : ℕ) → block < length old.now → slice_index_or touched.now block true ≡ false → AreBlockParts (arcs_of_block block arcs.now) delta (slice_index_or (map (λ block. block_parts block.value.starts block.value.legs.items) old.now) block []) }
+    ensures count { IfOk result (λ blocks. length blocks.items ≡ length old.now) }
+    ensures each { IfOk result (λ blocks. AreBlocksOf arcs.now delta (map (λ block. block_parts block.value.starts block.value.legs.items) blocks.items)) }
+{
+    let mut blocks = Vec::with_capacity(alloc, old.len())?;
+    let mut found = Vec::new(alloc);
+    for block in 0..old.len() {
+        let places = &index[block];
+        let is_touched = touched[block];
+        let next = next_block(
+            alloc,
+            &old[block],
+            arcs,
+            places,
+            delta,
+            is_touched,
+            &mut found,
+        )?;
+        blocks.push(next)?;
+    }
+    Ok(blocks)
+}
+
+/// The greatest length of a leg of these blocks, or 0 where they have none.
+pub(crate) fn greatest_of(blocks: &[Arc<Block>]) -> u32
+    ensures { result ≡ fold max 0 (map (λ block. block.value.greatest) blocks.now) }
+{
+    let mut greatest = 0;
+    for block in blocks {
+        greatest = greatest.max(block.greatest);
+    }
+    greatest
+}
+
+/// The mean length of a leg of these blocks, rounded down, or 0 where they have none.
+pub(crate) fn mean_of(blocks: &[Arc<Block>]) -> u64 {
+    let mut total: u64 = 0;
+    let mut count: u64 = 0;
+    for block in blocks {
+        total = total.saturating_add(block.total);
+        count = count.saturating_add(block.legs.len() as u64);
+    }
+    total / count.max(1)
+}

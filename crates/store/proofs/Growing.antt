@@ -1,5 +1,6 @@
 -- Pages that are written one behind the other.
 use Rattle.std.proofs.Common.{◌≡◌, ℕ, suc, ◌+◌, ◌≤◌, List, ◌++◌, length, take, drop, refl, sym, ◌∙◌, ap, arith, append_assoc, length-append, length-take, length-drop, append-nil}
+use Rattle.std.specs.Prelude.{⊤, Result, Ok, Err, OnOk}
 use Rattle.std.proofs.lemmas.Slice.{take-put_mid}
 use borrow.Rule.Slice.PartMut.{put_mid}
 use Rattle.store.specs.Created.{Waiting, so_far, IsInStep, first_pages}
@@ -16,6 +17,12 @@ length-put used n bytes new fits size =
 -- one page more
 pub next_step : (content content' : List ℕ) (was is : Waiting) (page : List ℕ) → IsInStep content was → so_far content' is ≡ so_far content was ++ page → is.next ≡ was.next + 1 → length page ≡ 4096 → IsInStep content' is
 next_step content content' was is page step written next size = omega (arith, step, next, size, ap length written, length-append content' is.bytes, length-append (so_far content was) page, length-append content was.bytes)
+
+-- the same after a call that adds a page, if it succeeds
+pub next_step_ok : {E : Type 0} (told : Result ⊤ E) (content content' : List ℕ) (was is : Waiting) (page : List ℕ) → IsInStep content was → length page ≡ 4096
+    → OnOk told (so_far content' is ≡ so_far content was ++ page) → OnOk told (is.next ≡ was.next + 1) → OnOk told (IsInStep content' is)
+next_step_ok (Ok _) content content' was is page step size written next = next_step content content' was is page step written next size
+next_step_ok (Err _) content content' was is page step size written next = tt
 
 -- From old to new these pages, so many, came behind the file.
 pub record Progress {D : Type 0} (content : D → List ℕ) (failures : D → ℕ) (honest : D → Type 0) (old new : D) (was is : Waiting) (pages : ℕ → List ℕ) (n : ℕ) : Type 0 where

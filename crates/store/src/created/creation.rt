@@ -1,11 +1,13 @@
 // Making a store on an empty disk.
 ghost use Rattle.std.specs.Prelude.{◌≡◌, ◌≢◌, ◌⊎◌, ◌+◌, ◌*◌, ◌≤◌, ◌<◌, ◌^◌, ◌↔◌, false, Some, [], ◌++◌, length, IfOk, OnOk, IfErr, MatchResult};
+ghost use Rattle.roadnet.specs.Net.{IsNetwork};
 ghost use Rattle.roadnet.specs.declared.refusals.Refusal.TheVariants.{OutOfMemory as out_of_memory, Device as device, NotEmpty as not_empty};
 ghost use Rattle.disk.specs.Calling.{Counts};
 ghost use Rattle.disk.specs.Contents.{Only, Rose};
 ghost use Rattle.disk.specs.Moments.{StaysSame};
 ghost use Rattle.pages.specs.declared.content.Slot.TheVariants.{A as slot_a};
-ghost use Rattle.pages.specs.Spelling.{IsHeader};
+ghost use Rattle.pages.specs.Spelling.{IsHeader, header_page, head_page};
+ghost use Rattle.pages.specs.declared.content.Format.TheVariants.{Two};
 ghost use Rattle.pages.specs.Layout.{arc_pages, word_pages, slot_pages};
 ghost use Rattle.pages.specs.Limits.{most_versions};
 ghost use Rattle.pagereader.specs.Reading.{HasFileOf};
@@ -13,7 +15,7 @@ ghost use Rattle.storefile.specs.Standing.{IsTidyAt, standing_of};
 ghost use Rattle.store.specs.Durable.{told_by, going_of};
 ghost use Rattle.store.specs.Created.{IsNewFile};
 ghost use Rattle.store.specs.State.{checkpoint_pages_of, IsNewFor, IsCountedBy};
-ghost use Rattle.store.specs.Created.{IsLaidOut, arc_bytes, word_bytes, blank_bytes, with_both_gates, Adds, IsInStep};
+ghost use Rattle.store.specs.Created.{IsLaidOut, arc_bytes, first_head, word_bytes, blank_bytes, with_both_gates, Adds, IsInStep};
 
 use crate::created::batch::Batch;
 use crate::opened::found::Found;
@@ -85,6 +87,46 @@ fn put_blank<D: Disk>(disk: &mut D, batch: &mut Batch, count: u64) -> Result<(),
     Ok(())
 }
 
+/// Writes the page of the header.
+#[inline(never)]
+fn put_header<D: Disk>(disk: &mut D, batch: &mut Batch, header: &Header) -> Result<(), DiskError>
+    requires few { batch.old.next < 2 ^ 32 }
+    requires in_step { D.honest disk.old → IsInStep (D.content disk.old) batch.old }
+    ensures written { D.honest disk.old → OnOk result (Adds (header_page header.now) (D.content disk.old) batch.old (D.content disk.new) batch.new) }
+    ensures in_step { D.honest disk.new → OnOk result (IsInStep (D.content disk.new) batch.new) }
+    ensures next { OnOk result (batch.new.next ≡ batch.old.next + 1) }
+    ensures counts { Counts D.Disk result disk.old disk.new }
+{
+    batch.put(disk, &encode_header(header))
+}
+
+/// Writes the page of slot A's head, for the network at this version.
+#[inline(never)]
+fn put_head<D: Disk>(
+    disk: &mut D,
+    batch: &mut Batch,
+    network: &Network,
+    version: u64,
+) -> Result<(), DiskError>
+    requires few { batch.old.next < 2 ^ 32 }
+    requires in_step { D.honest disk.old → IsInStep (D.content disk.old) batch.old }
+    ensures written { D.honest disk.old → OnOk result (Adds (head_page Two (first_head network.now version)) (D.content disk.old) batch.old (D.content disk.new) batch.new) }
+    ensures in_step { D.honest disk.new → OnOk result (IsInStep (D.content disk.new) batch.new) }
+    ensures next { OnOk result (batch.new.next ≡ batch.old.next + 1) }
+    ensures network { IsNetwork network.now }
+    ensures counts { Counts D.Disk result disk.old disk.new }
+{
+    let head = encode_slot_head(
+        Format::Two,
+        1,
+        version,
+        0,
+        network.arcs().len() as u32,
+        network.landmarks(),
+    );
+    batch.put(disk, &head)
+}
+
 /// Writes all pages of a new store to an empty disk, with their gates closed.
 #[inline(never)]
 fn lay_out<D: Disk>(
@@ -100,17 +142,9 @@ fn lay_out<D: Disk>(
     ensures laid_out { D.honest disk.old → OnOk result (IsLaidOut (D.content disk.new) header.now network.now version) }
     ensures counts { Counts D.Disk result disk.old disk.new }
 {
-    batch.put(disk, &encode_header(header))?;
+    put_header(disk, batch, header)?;
     put_arcs(disk, batch, header, network)?;
-    let head = encode_slot_head(
-        Format::Two,
-        1,
-        version,
-        0,
-        network.arcs().len() as u32,
-        network.landmarks(),
-    );
-    batch.put(disk, &head)?;
+    put_head(disk, batch, network, version)?;
     put_words(disk, batch, header, network)?;
     put_blank(
         disk,

@@ -168,6 +168,7 @@ fn open_gates<D: Disk>(disk: &mut D, header: &Header) -> Result<(), DiskError>
 }
 
 /// The pages of a new store of this network at this version, as `create_at` makes it.
+#[inline(never)]
 pub fn create_paged<D: Disk>(
     alloc: Global,
     disk: D,

@@ -21,8 +21,11 @@ OF_STORE = "for who keeps a store without a keeper"
 OF_DESK = "for who keeps a desk in a program of its own"
 OF_ARCS = "for who walks the grouped arcs without a search"
 OF_QUEUES = "for who searches with a queue of their own"
+OF_NETWORK = "for who changes a network, or its outline, without a store"
 OF_PREMISE = "a file that keeps the premise of what is said of files"
 KEPT = {
+    ("roadnet", "Network", "apply_group"): OF_NETWORK,
+    ("roadnet", "Outline", "apply_group"): OF_NETWORK,
     ("dimacs", None, "parse_gr"): IN_MEMORY,
     ("dimacs", None, "parse_ss"): IN_MEMORY,
     ("dimacs", None, "parse_p2p"): IN_MEMORY,

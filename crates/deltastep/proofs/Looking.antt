@@ -1,6 +1,5 @@
 -- That a repair looks at each node that may owe something: one with other legs than before, or with a leg to a node that lost its value.
-use Rattle.std.proofs.Common.{◌≡◌, ◌≢◌, ℕ, suc, ◌+◌, ◌<◌, ◌≤◌, ◌⊎◌, List, [], length, get_or, take, All, Contains, IsSome, Option, Some, None, refl, sym, ap, subst, ◌∙◌, inl, inr, arith, unwrap_or, is_some, true}
-use Rattle.std.proofs.lemmas.Bool.{cases_eq}
+use Rattle.std.proofs.Common.{◌≡◌, ℕ, ◌+◌, ◌≤◌, List, length, get_or, All, Contains, IsSome, Option, Some, None, refl, sym, ap, subst, ◌∙◌, inl, inr, arith, unwrap_or, is_some, true}
 use Rattle.std.proofs.lemmas.Option.{same_Some}
 use Rattle.std.proofs.lemmas.List.Elements.{Contains-get_or}
 use Rattle.std.specs.FinMap.{get, empty, get-empty}
@@ -13,7 +12,7 @@ use Rattle.snapshot.specs.declared.legs.Part.{Part}
 use Rattle.snapshot.specs.declared.legs.Part.TheVariants.{Light, Heavy}
 use Rattle.buckets.specs.Queue.{Entries}
 use Rattle.deltastep.specs.Search.{IsRelaxed, IsSearch, top_of}
-use Rattle.deltastep.specs.Repair.{AreChanged, AreQueued, AreTails, AreTailsLooked, IsKeptOf, IsNodeLooked}
+use Rattle.deltastep.specs.Repair.{AreChanged, AreListed, AreQueued, AreTails, AreTailsLooked, IsKeptOf, IsNodeLooked}
 use Rattle.deltastep.proofs.Lowering.{value_or-some}
 use Rattle.deltastep.proofs.Remaining.{IsRowIn, All-member}
 
@@ -30,18 +29,18 @@ All-looked_on groups t q q' legs keeps all k d lt = IsLooked-on groups t q q' ke
 pub All-changed_on : (groups : Groups) (t : List (Option ℕ)) (q q' : Entries) (nodes : List ℕ) → ((u : ℕ) → IsSome (get q u) → IsSome (get q' u)) → All (λ u. 1 ≤ u → u ≤ groups.nodes → IsNodeLooked groups t q u) nodes → All (λ u. 1 ≤ u → u ≤ groups.nodes → IsNodeLooked groups t q' u) nodes
 All-changed_on groups t q q' nodes keeps all k d lt low high = IsLooked-on groups t q q' keeps (get_or nodes k d) (all k d lt low high)
 
-pub AreTailsLooked-on : (groups back : Groups) (row t : List (Option ℕ)) (q q' : Entries) (w : ℕ) → ((u : ℕ) → IsSome (get q u) → IsSome (get q' u)) → AreTailsLooked groups back row t q w → AreTailsLooked groups back row t q' w
-AreTailsLooked-on groups back row t q q' w keeps looked none y has part = All-looked_on groups t q q' (legs_of back part w) keeps (looked none y has part)
+pub AreTailsLooked-on : (groups back : Groups) (t : List (Option ℕ)) (q q' : Entries) (w : ℕ) → ((u : ℕ) → IsSome (get q u) → IsSome (get q' u)) → AreTailsLooked groups back t q w → AreTailsLooked groups back t q' w
+AreTailsLooked-on groups back t q q' w keeps looked part = All-looked_on groups t q q' (legs_of back part w) keeps (looked part)
 
-pub AreTailsLooked-parts : (groups back : Groups) (row t : List (Option ℕ)) (q : Entries) (w : ℕ) → All (λ (leg : Leg). IsNodeLooked groups t q leg.head) (legs_of back Light w) → All (λ (leg : Leg). IsNodeLooked groups t q leg.head) (legs_of back Heavy w) → AreTailsLooked groups back row t q w
-AreTailsLooked-parts groups back row t q w light heavy none y has part = elim part as (λ p. All (λ (leg : Leg). IsNodeLooked groups t q leg.head) (legs_of back p w)) [ Light ↦ light | Heavy ↦ heavy ]
+pub AreTailsLooked-parts : (groups back : Groups) (t : List (Option ℕ)) (q : Entries) (w : ℕ) → All (λ (leg : Leg). IsNodeLooked groups t q leg.head) (legs_of back Light w) → All (λ (leg : Leg). IsNodeLooked groups t q leg.head) (legs_of back Heavy w) → AreTailsLooked groups back t q w
+AreTailsLooked-parts groups back t q w light heavy part = elim part as (λ p. All (λ (leg : Leg). IsNodeLooked groups t q leg.head) (legs_of back p w)) [ Light ↦ light | Heavy ↦ heavy ]
 
 pub heads_to : (groups : Groups) (n : ℕ) (part : Part) (u : ℕ) (legs : List Leg) → IsGrouped groups → groups.nodes ≡ n → legs ≡ legs_of groups part u → All (λ (leg : Leg). (1 ≤ leg.head) × (leg.head ≤ n)) legs
 heads_to groups n part u legs grouped nodes is k d lt =
     let c : Contains (legs_of groups part u) (get_or legs k d) = subst (λ (l : List Leg). Contains l (get_or legs k d)) is (Contains-get_or legs k d lt) in
     (grouped.low part u (get_or legs k d) c, omega (arith, grouped.high part u (get_or legs k d) c))
 
-module _ (before after back : Groups) (source : ℕ) (row t : List (Option ℕ)) (q : Entries) (changed : List ℕ) (grouped : IsGrouped after) (of_row : IsRowIn before source row) (kept : IsKeptOf source row t) (search : IsSearch after t empty 0) (are : AreChanged before after changed) (tails : AreTails back after) (looked : All (λ u. 1 ≤ u → u ≤ after.nodes → IsNodeLooked after t q u) changed) (tails_looked : (w : ℕ) → 1 ≤ w → w ≤ after.nodes → AreTailsLooked after back row t q w) where
+module _ (before after back : Groups) (source : ℕ) (row t : List (Option ℕ)) (q : Entries) (changed lost : List ℕ) (grouped : IsGrouped after) (of_row : IsRowIn before source row) (kept : IsKeptOf source row t) (search : IsSearch after t empty 0) (are : AreChanged before after changed) (tails : AreTails back after) (looked : All (λ u. 1 ≤ u → u ≤ after.nodes → IsNodeLooked after t q u) changed) (listed : AreListed row t lost) (tails_looked : All (AreTailsLooked after back t q) lost) where
   has_kept : (u x : ℕ) → value_at t u ≡ Some x → distance_at row u ≡ Some x
   has_kept u x has = elim (kept.kept u) as (λ _. distance_at row u ≡ Some x) [
     | inl none ↦ absurd (let no : None ≡ Some x = sym none ∙ has in let absurdity : ⊥ = cc in absurdity)
@@ -77,9 +76,13 @@ module _ (before after back : Groups) (source : ℕ) (row t : List (Option ℕ))
                   omega (arith, here, there, step.2, same_z)
               | None ↦ λ e.
                   let way = tails part u leg c in
-                  let all = tails_looked leg.head (grouped.low part u leg c) (grouped.high part u leg c) e step.0 step.1 way.0 in
-                  let at : IsNodeLooked after t q way.1.head = All-member (λ (l : Leg). IsNodeLooked after t q l.head) (legs_of back way.0 leg.head) way.1 all way.2 in
-                  of_looked u none (subst (λ v. IsNodeLooked after t q v) way.3 at) part leg c
+                  elim (listed leg.head e) as (λ _. Goal) [
+                    | inl there ↦
+                        let all = All-member (AreTailsLooked after back t q) lost leg.head tails_looked there way.0 in
+                        let at : IsNodeLooked after t q way.1.head = All-member (λ (l : Leg). IsNodeLooked after t q l.head) (legs_of back way.0 leg.head) way.1 all way.2 in
+                        of_looked u none (subst (λ v. IsNodeLooked after t q v) way.3 at) part leg c
+                    | inr gone ↦ absurd (let no : None ≡ Some step.0 = sym gone ∙ step.1 in let absurdity : ⊥ = cc in absurdity)
+                  ]
             ] refl
       ]
 

@@ -1,17 +1,17 @@
 -- What is left of a row after a change are lengths of trips in the new snapshot.
-use Rattle.std.proofs.Common.{◌≡◌, ◌≢◌, ℕ, zero, suc, ◌+◌, ◌*◌, ◌-◌, ◌<◌, ◌≤◌, ◌⊎◌, List, [], ◌∷◌, ◌++◌, length, get_or, All, Contains, IsSome, Option, Some, None, refl, sym, ap, subst, ◌∙◌, inl, inr, arith, unwrap_or, is_some, MatchOption, slice_get}
+use Rattle.std.proofs.Common.{◌≡◌, ℕ, zero, suc, ◌+◌, ◌*◌, ◌-◌, ◌<◌, ◌≤◌, ◌⊎◌, List, [], ◌∷◌, ◌++◌, length, get_or, All, Contains, Option, Some, None, refl, sym, ap, subst, ◌∙◌, inl, inr, arith, MatchOption}
 use Rattle.std.proofs.lemmas.Bool.{cases_eq, cases_lt}
 use Rattle.std.proofs.lemmas.Option.{same_Some}
 use Rattle.std.proofs.lemmas.List.{get_or_past}
-use Rattle.relax.specs.Values.{value_at, value_or}
-use Rattle.roadnet.specs.Net.{Net, IsNode, IsNetwork}
-use Rattle.roadnet.specs.Walks.{Walk, Least, NoWalk, RowOf, length_of, distance_at}
+use Rattle.relax.specs.Values.{value_at}
+use Rattle.roadnet.specs.Net.{Net, IsNode}
+use Rattle.roadnet.specs.Walks.{Least, NoWalk, RowOf, distance_at}
 use Rattle.snapshot.specs.Groups.{Groups, legs_of, IsSnapshotOf, IsGrouped}
 use Rattle.snapshot.specs.declared.legs.Leg.{Leg}
 use Rattle.snapshot.specs.declared.legs.Part.{Part}
 use Rattle.deltastep.specs.Search.{IsSearch, Trip, trip_length, Reaches, AreReached, top_of}
-use Rattle.deltastep.specs.Repair.{AreChanged, HasLeg, IsLost, IsKeptOf, AreGoneLost, IsSpread, IsClosedBut, IsThinner, Thins}
-use Rattle.deltastep.proofs.Finishing.{distance_at-value_at, walk_of_trip, trip_of_walk, trip_length-cons, ShortTrip, ShortTrip-of, ShortTrip-below_top}
+use Rattle.deltastep.specs.Repair.{AreChanged, AreListed, HasLeg, IsLost, IsKeptOf, AreGoneLost, IsSpread, IsClosedBut, IsThinner, Thins}
+use Rattle.deltastep.proofs.Finishing.{distance_at-value_at, walk_of_trip, trip_of_walk, trip_length-cons, ShortTrip-of, ShortTrip-below_top}
 use Rattle.frontier.proofs.Members.{Contains-nil}
 use Rattle.deltastep.proofs.Thinning.{AreGoneLost-on, no_distance}
 use Rattle.std.specs.FinMap.{empty, get-empty}
@@ -172,6 +172,13 @@ pub IsClosedBut-first : (groups : Groups) (source : ℕ) (row t0 t : List (Optio
 IsClosedBut-first groups source row t0 t lost first thins u none = elim (thins.more u none) as (λ _. Contains lost u ⊎ IsSpread groups source row t u) [
   | inl c ↦ inl c
   | inr was ↦ inr (λ value has part. no_distance row u value (distance_at-value_at row u ∙ (ap (λ (l : List (Option ℕ)). value_at l u) (sym first) ∙ was)) has)
+]
+
+-- each node that lost its value is on the list
+pub AreListed-of : (source : ℕ) (row t0 t : List (Option ℕ)) (lost : List ℕ) → t0 ≡ None ∷ row → Thins source t0 [] t lost → AreListed row t lost
+AreListed-of source row t0 t lost first thins u none = elim (thins.more u none) as (λ _. Contains lost u ⊎ (distance_at row u ≡ None)) [
+  | inl c ↦ inl c
+  | inr was ↦ inr (distance_at-value_at row u ∙ (ap (λ (l : List (Option ℕ)). value_at l u) (sym first) ∙ was))
 ]
 
 pub IsKeptOf-thinner : (groups : Groups) (source : ℕ) (row t0 t : List (Option ℕ)) → IsRowIn groups source row → t0 ≡ None ∷ row → IsThinner source t0 t → IsKeptOf source row t

@@ -2,8 +2,8 @@
 use Rattle.std.proofs.Common.{◌≡◌, ◌∙◌, ℕ, suc, ◌+◌, ◌-◌, ◌<◌, ◌≤◌, Bool, true, false, List, [], ◌++◌, Some, length, get_or, set, take, drop, replicate, map, sum, MatchBool, refl, ap, sym, subst, arith, ⊎_elim}
 use Rattle.std.specs.List.{All}
 use Rattle.std.proofs.lemmas.Bool.{cases_eq}
-use Rattle.std.proofs.lemmas.List.{take_at, take_all, length-replicate, get_or-replicate, get_or-set_same, get_or-set_other, get_or_default, length-set}
-use Rattle.std.proofs.lemmas.List.Elements.{All-more}
+use Rattle.std.proofs.lemmas.List.{take_at, take_all, length-replicate, get_or-replicate, get_or-set_same, get_or-set_other, length-set}
+use Rattle.std.proofs.lemmas.List.Elements.{All-more, All-get_or}
 use Rattle.std.proofs.lemmas.Option.{slice_get-get_or}
 use Rattle.roadnet.specs.declared.arcs.RoadArc.{RoadArc}
 use Rattle.roadnet.specs.Net.{Net, IsNode, IsNetwork, IsArcAmong, arc_at}
@@ -108,18 +108,21 @@ cases_at_end net old new true i all cases = cases
 cases_at_end net old new false i all cases = (cases.0, subst (λ (arcs : List RoadArc). All (IsArcSettled old) arcs) (take_all i net.arcs all) cases.1)
 
 -- ---- the same, as the loop over the arcs has it
-module _ (net : Net) (ok : IsNetwork net) (old mid new : List ℕ) (arcs : List RoadArc) (i : ℕ) (d : RoadArc) (e : arcs ≡ net.arcs) (lt : i < length arcs) where
+module _ (net : Net) (ok : IsNetwork net) (old mid new : List ℕ) (arcs : List RoadArc) (i : ℕ) (arc : RoadArc) (e : arcs ≡ net.arcs) (lt : i < length arcs) (is : get_or arcs i arc ≡ arc) where
   index_in : i < length net.arcs
   index_in = omega (arith, ap length e)
 
-  arc_read : get_or arcs i d ≡ get_or net.arcs i (get_or arcs i d)
-  arc_read = ap (λ (l : List RoadArc). get_or l i d) e ∙ get_or_default net.arcs i d (get_or arcs i d) index_in
+  arc_read : arc ≡ get_or net.arcs i arc
+  arc_read = sym is ∙ ap (λ (l : List RoadArc). get_or l i arc) e
 
-  pub nearer_more : (nearer : Bool) → IsPartlyRelaxed net old mid nearer i → IsLowered (get_or arcs i d) mid new → IsPartlyRelaxed net old new true (i + 1)
-  nearer_more = relaxed_nearer net ok old mid new i (get_or arcs i d) index_in arc_read
+  pub among : IsArcAmong net.nodes arc
+  among = subst (λ (a : RoadArc). IsArcAmong net.nodes a) (sym arc_read) (All-get_or (IsArcAmong net.nodes) net.arcs i arc index_in ok.each_arc)
 
-  pub settled_more : (nearer : Bool) → IsPartlyRelaxed net old mid nearer i → (new ≡ mid) × IsArcSettled mid (get_or arcs i d) → IsPartlyRelaxed net old new nearer (i + 1)
-  settled_more = relaxed_settled net ok old mid new i (get_or arcs i d) index_in arc_read
+  pub nearer_more : (nearer : Bool) → IsPartlyRelaxed net old mid nearer i → IsLowered arc mid new → IsPartlyRelaxed net old new true (i + 1)
+  nearer_more = relaxed_nearer net ok old mid new i arc index_in arc_read
+
+  pub settled_more : (nearer : Bool) → IsPartlyRelaxed net old mid nearer i → (new ≡ mid) × IsArcSettled mid arc → IsPartlyRelaxed net old new nearer (i + 1)
+  settled_more = relaxed_settled net ok old mid new i arc index_in arc_read
 
 -- a round in which no node came nearer leaves the row
 pub RowOf-round : (net : Net) (s : ℕ) (old new : List ℕ) → IsNetwork net → IsNode net s → IsBounded net.nodes new → IsWalked net s new → (new ≡ old) × All (IsArcSettled old) net.arcs → RowOf net s (map distance_of_word new)

@@ -1,8 +1,8 @@
 -- Values that are taken away, step by step.
-use Rattle.std.proofs.Common.{◌≡◌, ◌≢◌, ℕ, suc, ◌+◌, ◌<◌, ◌≤◌, ◌⊎◌, List, [], ◌∷◌, ◌++◌, length, set, take, Contains, All, Option, Some, None, refl, sym, ap, subst, ◌∙◌, inl, inr, arith, length-set, get_or-set_same, get_or-set_other, get_or}
+use Rattle.std.proofs.Common.{◌≡◌, ◌≢◌, ℕ, ◌+◌, ◌<◌, ◌≤◌, ◌⊎◌, List, [], ◌∷◌, ◌++◌, length, set, take, Contains, All, Option, Some, None, refl, sym, ap, subst, ◌∙◌, inl, inr, arith, append_assoc, length-set, get_or-set_same, get_or-set_other, get_or}
 use Rattle.std.proofs.lemmas.Bool.{cases_eq}
-use Rattle.std.proofs.lemmas.List.Elements.{Contains-append_left, Contains-push, Contains-push_cases, Contains-get_or, All-push}
-use Rattle.std.proofs.lemmas.List.{take_more, take_all}
+use Rattle.std.proofs.lemmas.List.Elements.{Contains-append_left, Contains-push, Contains-get_or, All-push}
+use Rattle.std.proofs.lemmas.List.{append-nil, take-append-le, take_more, take_all}
 use Rattle.std.proofs.lemmas.Option.{same_Some}
 use Rattle.relax.specs.Values.{value_at}
 use Rattle.roadnet.specs.Walks.{distance_at}
@@ -10,8 +10,7 @@ use Rattle.snapshot.specs.Groups.{Groups, legs_of, IsGrouped}
 use Rattle.snapshot.specs.declared.legs.Leg.{Leg}
 use Rattle.snapshot.specs.declared.legs.Part.{Part}
 use Rattle.snapshot.specs.declared.legs.Part.TheVariants.{Light, Heavy}
-use Rattle.deltastep.specs.Repair.{HasLeg, IsLost, IsKeptOf, LeadToLost, AreThereOrLost, AreGoneLost, IsSpread, IsClosedBut, IsThinner, Thins}
-
+use Rattle.deltastep.specs.Repair.{HasLeg, IsLost, LeadToLost, AreThereOrLost, AreGoneLost, IsSpread, IsClosedBut, IsThinner, Thins}
 pub IsThinner-same : (source : ℕ) (t : List (Option ℕ)) → IsThinner source t t
 IsThinner-same source t = record { places = refl; starts = refl; moves = λ u. inr refl }
 
@@ -37,16 +36,20 @@ IsLost-on source t t' thinner v (inr none) = elim (thinner.moves v) as (λ _. Is
 ]
 
 pub Thins-same : (source : ℕ) (t : List (Option ℕ)) (lost : List ℕ) → Thins source t lost t lost
-Thins-same source t lost = record { thinner = IsThinner-same source t; listed = λ u c. c; more = λ u none. inr none }
+Thins-same source t lost = record { thinner = IsThinner-same source t; grows = ([], sym (append-nil lost)); more = λ u none. inr none }
+
+-- what is on the list stays there
+pub listed : (lost lost' : List ℕ) → (more : List ℕ) × (lost' ≡ lost ++ more) → (u : ℕ) → Contains lost u → Contains lost' u
+listed lost lost' grows u c = subst (λ (l : List ℕ). Contains l u) (sym grows.1) (Contains-append_left lost grows.0 u c)
 
 pub Thins-on : (source : ℕ) (t t' t'' : List (Option ℕ)) (lost lost' lost'' : List ℕ) → Thins source t lost t' lost' → Thins source t' lost' t'' lost'' → Thins source t lost t'' lost''
 Thins-on source t t' t'' lost lost' lost'' a b = record {
   thinner = IsThinner-on source t t' t'' a.thinner b.thinner;
-  listed = λ u c. b.listed u (a.listed u c);
+  grows = (a.grows.0 ++ b.grows.0, b.grows.1 ∙ (ap (λ (l : List ℕ). l ++ b.grows.0) a.grows.1 ∙ append_assoc lost a.grows.0 b.grows.0));
   more = λ u none. elim (b.more u none) as (λ _. Contains lost'' u ⊎ (value_at t u ≡ None)) [
     | inl c ↦ inl c
     | inr was ↦ elim (a.more u was) as (λ _. Contains lost'' u ⊎ (value_at t u ≡ None)) [
-      | inl c ↦ inl (b.listed u c)
+      | inl c ↦ inl (listed lost' lost'' b.grows u c)
       | inr before ↦ inr before
     ]
   ];
@@ -85,27 +88,37 @@ Thins-one source t lost node other within = record {
       | inr ne ↦ inr (get_or-set_other t node u None None ne)
     ];
   };
-  listed = λ u c. Contains-append_left lost (node ∷ []) u c;
+  grows = (node ∷ [], refl);
   more = λ u none. elim (cases_eq u node) as (λ _. Contains (lost ++ node ∷ []) u ⊎ (value_at t u ≡ None)) [
     | inl e ↦ inl (subst (λ v. Contains (lost ++ node ∷ []) v) (sym e) (Contains-push lost node))
     | inr ne ↦ inr (sym (get_or-set_other t node u None None ne) ∙ none)
   ];
 }
 
--- a node was taken off the list, and what hangs on it lost
-pub IsClosedBut-popped : (groups : Groups) (source : ℕ) (row t t' : List (Option ℕ)) (lost lost' lost'' : List ℕ) (node : ℕ) → lost ≡ lost' ++ node ∷ [] → Thins source t lost' t' lost'' → IsSpread groups source row t' node → IsClosedBut groups source row t lost → IsClosedBut groups source row t' lost''
-IsClosedBut-popped groups source row t t' lost lost' lost'' node popped thins spread closed u none =
-    let Goal = Contains lost'' u ⊎ IsSpread groups source row t' u in
+-- what hangs on the next node of the list is lost
+pub IsClosedBut-next : (groups : Groups) (source : ℕ) (row t t' : List (Option ℕ)) (lost lost' : List ℕ) → Thins source t lost t' lost' → IsClosedBut groups source row t lost → IsClosedBut groups source row t' lost'
+IsClosedBut-next groups source row t t' lost lost' thins closed u none =
+    let Goal = Contains lost' u ⊎ IsSpread groups source row t' u in
     elim (thins.more u none) as (λ _. Goal) [
       | inl c ↦ inl c
       | inr was ↦ elim (closed u was) as (λ _. Goal) [
-        | inl c ↦ elim (Contains-push_cases lost' node u (subst (λ (l : List ℕ). Contains l u) popped c)) as (λ _. Goal) [
-          | inl there ↦ inl (thins.listed u there)
-          | inr e ↦ inr (subst (λ v. IsSpread groups source row t' v) e spread)
-        ]
-        | inr spread' ↦ inr (IsSpread-on groups source row t t' u thins.thinner spread')
+        | inl c ↦ inl (listed lost lost' thins.grows u c)
+        | inr spread ↦ inr (IsSpread-on groups source row t t' u thins.thinner spread)
       ]
     ]
+
+pub All-spread_next : (groups : Groups) (source : ℕ) (row t t' : List (Option ℕ)) (lost lost' : List ℕ) (place node : ℕ) → place < length lost → node ≡ get_or lost place node → Thins source t lost t' lost' → IsSpread groups source row t' node → All (IsSpread groups source row t) (take place lost) → All (IsSpread groups source row t') (take (place + 1) lost')
+All-spread_next groups source row t t' lost lost' place node lt is thins spread all =
+    let P = IsSpread groups source row t' in
+    let front : take (place + 1) lost' ≡ take (place + 1) lost = ap (take (place + 1)) thins.grows.1 ∙ take-append-le (place + 1) lost thins.grows.0 (omega arith) in
+    subst (All P) (sym front) (All-take_more P lost place node lt (λ k d within. IsSpread-on groups source row t t' (get_or (take place lost) k d) thins.thinner (all k d within)) (subst P is spread))
+
+-- where the whole list was gone over
+pub IsClosedBut-over : (groups : Groups) (source : ℕ) (row t : List (Option ℕ)) (lost : List ℕ) (place : ℕ) → length lost ≤ place → All (IsSpread groups source row t) (take place lost) → IsClosedBut groups source row t lost → IsClosedBut groups source row t []
+IsClosedBut-over groups source row t lost place past all closed u none = elim (closed u none) as (λ _. Contains [] u ⊎ IsSpread groups source row t u) [
+  | inl c ↦ inr (subst (IsSpread groups source row t) c.2 (All-of_take (IsSpread groups source row t) lost place past all c.0 u c.1))
+  | inr spread ↦ inr spread
+]
 
 -- the parts of a node
 pub IsSpread-parts : (groups : Groups) (source : ℕ) (row t : List (Option ℕ)) (u value : ℕ) → distance_at row u ≡ Some value → LeadToLost source row t value (legs_of groups Light u) → LeadToLost source row t value (legs_of groups Heavy u) → IsSpread groups source row t u

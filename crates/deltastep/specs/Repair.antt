@@ -7,7 +7,7 @@
 --     IsSpread groups source row tentative u     the tight legs of node u lead to lost nodes
 --     IsClosedBut groups .. lost         so it is at each node that has no value and is not on the list
 --     IsUntouched before after row u     the tight legs of node u are still there, and no leg of it leads to less than the row has
-use Rattle.std.specs.Prelude.{◌≡◌, ℕ, ◌+◌, ◌≤◌, ◌⊎◌, suc, true, List, length, All, IsSome, Contains, Option, None, Some, unwrap_or}
+use Rattle.std.specs.Prelude.{◌≡◌, ℕ, ◌+◌, ◌≤◌, ◌⊎◌, suc, List, ◌++◌, length, All, IsSome, Contains, Option, None, Some, unwrap_or}
 use Rattle.relax.specs.Values.{value_at}
 use Rattle.std.specs.FinMap as map
 use Rattle.buckets.specs.Queue.{Entries}
@@ -75,7 +75,7 @@ pub record IsThinner (source : ℕ) (old new : List (Option ℕ)) : Type 0 where
 -- .. and each node that lost its value was put on the list
 pub record Thins (source : ℕ) (old : List (Option ℕ)) (lost : List ℕ) (new : List (Option ℕ)) (lost' : List ℕ) : Type 0 where
   pub thinner : IsThinner source old new
-  pub listed : (u : ℕ) → Contains lost u → Contains lost' u
+  pub grows : (more : List ℕ) × (lost' ≡ lost ++ more)
   pub more : (u : ℕ) → value_at new u ≡ None → Contains lost' u ⊎ (value_at old u ≡ None)
 
 -- the node is queued, or no leg of it leads to less than is known
@@ -86,7 +86,10 @@ IsNodeLooked groups tentative queue u = IsSome (map.get queue u) ⊎ ((part : Pa
 abbrev pub AreTails : Groups → Groups → Type 0
 AreTails back groups = (part : Part) (u : ℕ) (leg : Leg) → Contains (legs_of groups part u) leg → (way : Part) × (l : Leg) × Contains (legs_of back way leg.head) l × (l.head ≡ u)
 
--- where the node lost its value, each node with a leg to it was looked at
-abbrev pub AreTailsLooked : Groups → Groups → List (Option ℕ) → List (Option ℕ) → Entries → ℕ → Type 0
-AreTailsLooked groups back row tentative queue w =
-    value_at tentative w ≡ None → (y : ℕ) → distance_at row w ≡ Some y → (part : Part) → All (λ leg. IsNodeLooked groups tentative queue leg.head) (legs_of back part w)
+-- each node with a leg to this node was looked at
+abbrev pub AreTailsLooked : Groups → Groups → List (Option ℕ) → Entries → ℕ → Type 0
+AreTailsLooked groups back tentative queue w = (part : Part) → All (λ leg. IsNodeLooked groups tentative queue leg.head) (legs_of back part w)
+
+-- each node with a distance in the row and no value is on the list
+abbrev pub AreListed : List (Option ℕ) → List (Option ℕ) → List ℕ → Type 0
+AreListed row tentative lost = (u : ℕ) → value_at tentative u ≡ None → Contains lost u ⊎ (distance_at row u ≡ None)

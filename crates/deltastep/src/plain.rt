@@ -4,7 +4,8 @@ ghost use Rattle.roadnet.specs.Walks.{RowOf};
 ghost use Rattle.deltastep.specs.Tentative.{IsBounded, IsWalked, IsArcSettled, IsLowered};
 
 use crate::rows::distances::{Distances, NO_WALK, RowError};
-use roadnet::{Network, RoadArc};
+use roadnet::RoadArc;
+use shared_network::SharedNetwork;
 use std::alloc::Global;
 
 /// The row of `source`: the least length of a walk from it to each node, or that there is none.
@@ -14,7 +15,7 @@ use std::alloc::Global;
 /// is lack of memory, for 8 bytes a node.
 ///
 /// In the network of `examples/six.gr`, the row of node 1 has the lengths 0, 10, 10, 12, 10 and 15, as that of `row`.
-pub fn plain_row(alloc: Global, network: &Network, source: u32) -> Result<Distances, RowError>
+pub fn plain_row(alloc: Global, network: &SharedNetwork, source: u32) -> Result<Distances, RowError>
     requires { IsNode network.now source }
     ensures { IfOk result (λ row. RowOf network.now source row) }
 {
@@ -26,15 +27,16 @@ pub fn plain_row(alloc: Global, network: &Network, source: u32) -> Result<Distan
 }
 
 /// Relaxes each arc once. Returns whether some node came nearer.
-fn relax_all(network: &Network, words: &mut [u64]) -> bool
+fn relax_all(network: &SharedNetwork, words: &mut [u64]) -> bool
     requires { IsBounded network.now.nodes words.old }
     ensures bounded { IsBounded network.now.nodes words.new }
     ensures walked { (s : ℕ) → IsWalked network.now s words.old → IsWalked network.now s words.new }
     ensures cases { MatchBool result (sum words.new < sum words.old) ((words.new ≡ words.old) × All (IsArcSettled words.old) network.now.arcs) }
 {
     let mut nearer = false;
-    for &arc in network.arcs() {
-        if relax(arc, words) {
+    let arcs = network.arcs();
+    for place in 0..arcs.len() {
+        if relax(*arcs.get(place), words) {
             nearer = true;
         }
     }

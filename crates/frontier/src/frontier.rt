@@ -1,11 +1,14 @@
-ghost use Rattle.std.specs.Prelude.{◌≡◌, ℕ, ◌≤◌, ◌<◌, ◌/◌, ◌+◌, ◌^◌, List, [], Option, Some, IfOk, MatchBool, MatchOption, length, slice_set};
+ghost use Rattle.std.specs.Prelude.{◌≡◌, ℕ, ◌≤◌, ◌<◌, ◌/◌, ◌+◌, ◌^◌, List, [], All, Option, Some, IfOk, IsSome, MatchBool, MatchOption, length, slice_set};
 ghost use Rattle.std.specs.FinMap as map;
-ghost use Rattle.relax.specs.Values.{value_or};
+ghost use Rattle.relax.specs.Values.{value_at, value_or};
+ghost use Rattle.relax.specs.Requests.{requests_of};
 ghost use Rattle.buckets.specs.Queue.{Entries};
 ghost use Rattle.frontier.specs.Frontier.{TakesAny};
 
-use relax::Tentative;
-use std::alloc::AllocError;
+use relax::Team;
+use roadnet::OutOfMemory;
+use snapshot::{Part, Snapshot};
+use std::alloc::{AllocError, Global};
 
 /// What a search by values keeps: the tentative value of each node that has one, and the queued nodes, in buckets by value. Bucket `b` has the nodes whose
 /// value divided by `delta` is `b`, rounded down. A frontier may have a window, as a `BucketQueue` has.
@@ -32,11 +35,27 @@ pub trait Frontier {
         ensures value { result ≡ width self.now }
         ensures positive { 1 ≤ width self.now };
 
-    /// The tentative values.
-    fn values(&self) -> &Tentative
-        ensures value { result.now ≡ tentative self.now };
+    /// The value of a node, if it has one.
+    fn value(&self, node: u32) -> Option<u64>
+        requires node { (1 ≤ node) × (node < length (tentative self.now)) }
+        ensures value { result ≡ value_at (tentative self.now) node };
 
-    /// Lowers a node's value to the given one, if that is below `top` and the present value, and queues the node. Returns whether it did.
+    /// The requests of these nodes, as the team computes them where it can read the values. The only error is lack of memory, for 16 bytes a leg.
+    fn requests<T: Team>(
+        &self,
+        alloc: Global,
+        snapshot: &Snapshot,
+        team: &T,
+        nodes: &[u32],
+        part: Part,
+    ) -> Result<Vec<(u32, u64)>, OutOfMemory>
+        requires nodes { All (λ u. (1 ≤ u) × (u ≤ snapshot.now.nodes)) nodes.now }
+        requires size { length (tentative self.now) ≡ snapshot.now.nodes + 1 }
+        requires values { All (λ u. IsSome (value_at (tentative self.now) u) × (value_or 0 (tentative self.now) u < 2 ^ 56)) nodes.now }
+        ensures requests { IfOk result (λ list. list.items ≡ requests_of snapshot.now nodes.now (tentative self.now) part) };
+
+    /// Lowers a node's value to the given one, if that is below `top` and the present value, and queues the node. Returns whether it did. Its errors are lack of
+    /// memory, and a value that the frontier has no words for, if it has such values.
     fn lower(&mut self, top: u64, node: u32, value: u64) -> Result<bool, AllocError>
         requires node { (1 ≤ node) × (node < length (tentative self.old)) }
         requires fits { accepts self.old value }

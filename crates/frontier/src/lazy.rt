@@ -10,7 +10,9 @@ ghost use Rattle.frontier.specs.Live.{AreEntriesDealt, AreEntriesKept, CanStand,
 use crate::entries::EntryRing;
 use crate::frontier::Frontier;
 use crate::lower::is_lower;
-use relax::Tentative;
+use relax::{Team, Tentative};
+use roadnet::OutOfMemory;
+use snapshot::{Part, Snapshot};
 use std::alloc::{AllocError, Global};
 use std::mem::swap;
 
@@ -332,10 +334,23 @@ impl Frontier for LazyRing {
         self.ring.delta()
     }
 
-    /// The tentative values.
+    /// The value of a node.
     #[inline(always)]
-    fn values(&self) -> &Tentative {
-        &self.tentative
+    fn value(&self, node: u32) -> Option<u64> {
+        self.tentative.get(node)
+    }
+
+    /// The requests that the team computes.
+    #[inline(always)]
+    fn requests<T: Team>(
+        &self,
+        alloc: Global,
+        snapshot: &Snapshot,
+        team: &T,
+        nodes: &[u32],
+        part: Part,
+    ) -> Result<Vec<(u32, u64)>, OutOfMemory> {
+        team.requests(alloc, snapshot, nodes, &self.tentative, part)
     }
 
     /// Lowers a node's value, in amortized O(1).

@@ -5,11 +5,13 @@ mod entries;
 mod frontier;
 mod lazy;
 mod lower;
+mod mended;
 mod queued;
 mod remembered;
 
 pub use entries::EntryRing;
 pub use frontier::Frontier;
 pub use lazy::LazyRing;
+pub use mended::Mended;
 pub use queued::Queued;
 pub use remembered::Remembered;

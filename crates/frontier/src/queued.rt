@@ -5,8 +5,10 @@ ghost use Rattle.std.specs.Prelude.{◌≡◌};
 use crate::frontier::Frontier;
 use crate::lower::is_lower;
 use buckets::BucketQueue;
-use relax::Tentative;
-use std::alloc::AllocError;
+use relax::{Team, Tentative};
+use roadnet::OutOfMemory;
+use snapshot::{Part, Snapshot};
+use std::alloc::{AllocError, Global};
 
 /// Tentative values, and a queue of the nodes whose legs are still to be relaxed.
 #[derive(Drop)]
@@ -32,10 +34,23 @@ impl<Q: BucketQueue> Frontier for Queued<Q> {
         self.buckets.delta()
     }
 
-    /// The tentative values.
+    /// The value of a node.
     #[inline(always)]
-    fn values(&self) -> &Tentative {
-        &self.tentative
+    fn value(&self, node: u32) -> Option<u64> {
+        self.tentative.get(node)
+    }
+
+    /// The requests that the team computes.
+    #[inline(always)]
+    fn requests<T: Team>(
+        &self,
+        alloc: Global,
+        snapshot: &Snapshot,
+        team: &T,
+        nodes: &[u32],
+        part: Part,
+    ) -> Result<Vec<(u32, u64)>, OutOfMemory> {
+        team.requests(alloc, snapshot, nodes, &self.tentative, part)
     }
 
     /// Lowers a node's value, and puts it into the queue.

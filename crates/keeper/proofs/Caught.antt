@@ -1,19 +1,12 @@
 -- Networks that go on by groups to a later version.
-use Rattle.std.proofs.Common.{◌≡◌, ℕ, ◌+◌, ◌-◌, ◌<◌, ◌≤◌, List, [], ◌∷◌, ◌++◌, length, take, drop, get_or, Some, sym, ap, ◌∙◌, arith}
+use Rattle.std.proofs.Common.{◌≡◌, ℕ, ◌+◌, ◌-◌, ◌≤◌, List, ◌++◌, take, drop, Some, sym, ap, ◌∙◌, arith}
 use Rattle.std.specs.Prelude.{option_and_then}
-use Rattle.std.proofs.lemmas.List.{take-take, take_more, take-append-drop, drop-take}
+use Rattle.std.proofs.lemmas.List.{take-take, take-append-drop, drop-take}
 use Rattle.roadnet.specs.declared.groups.Group.{Group}
 use Rattle.roadnet.specs.Net.{Net}
-use Rattle.roadnet.specs.Step.{step_group, after}
+use Rattle.roadnet.specs.Step.{after}
 use Rattle.roadnet.proofs.Stepped.{after_both}
 use Rattle.machine.specs.Machine.{Machine, groups_to, network_at}
-
--- one group more is carried out
-pub after_more : (net mid next : Net) (groups : List Group) (i : ℕ) (d : Group) → i < length groups → after net (take i groups) ≡ Some mid → step_group mid (get_or groups i d) ≡ Some next → after net (take (i + 1) groups) ≡ Some next
-after_more net mid next groups i d lt before more =
-    let group = get_or groups i d in
-    let both = ap (after net) (take_more groups i d lt) ∙ after_both net (take i groups) (group ∷ []) in
-    both ∙ (ap (option_and_then (λ (n : Net). after n (group ∷ []))) before ∙ ap (option_and_then (λ (n : Net). Some n)) more)
 
 -- the groups from one place to another, behind those to the first
 split_at : {A : Type 0} (xs : List A) (n k : ℕ) → n ≤ k → take k xs ≡ take n xs ++ take (k - n) (drop n xs)

@@ -11,4 +11,3 @@ pub use keeper::starting::view_of;
 pub use keeper::tasks::{GroupTask, Task};
 pub use ledger::ledgers::Ledger;
 pub use machine::{Answer, Event, Receipt, Replied, Ticket, Writing};
-pub use networks::carrying::carry_out_in_turn;

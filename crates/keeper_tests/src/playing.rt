@@ -9,6 +9,7 @@ use keeper::{Keeper, Task};
 use relax::Solo;
 use roadnet::{Command, Network, Refusal};
 use rows::{Query, Reply, View};
+use shared_network::SharedNetwork;
 use std::alloc::Global;
 use std::sync::Arc;
 use std::thread::Threads;
@@ -113,7 +114,8 @@ fn shared(alloc: Global, view: View) -> Result<Arc<View>, Refusal> {
 }
 
 // A view of this network.
-fn view(alloc: Global, version: u64, network: Network) -> Result<Arc<View>, Refusal> {
+fn view(alloc: Global, version: u64, network: &Network) -> Result<Arc<View>, Refusal> {
+    let network = SharedNetwork::of(alloc, network)?;
     let view = View::build(alloc, version, network, None, &Solo)?;
     shared(alloc, view)
 }
@@ -180,8 +182,7 @@ fn publish_made<D: Disk>(keeper: &mut Keeper<D>, view: Result<Arc<View>, Refusal
 
 // The view of a task.
 fn view_of(alloc: Global, task: &Task) -> Result<Arc<View>, Refusal> {
-    let network = task.network.copy()?;
-    view(alloc, task.version, network)
+    view(alloc, task.version, &task.network)
 }
 
 fn show<D: Disk>(alloc: Global, keeper: &mut Keeper<D>) -> Told {

@@ -1,5 +1,6 @@
 use fixtures::six;
 use roadnet::{Command, Group, Refusal};
+use shared_network::SharedNetwork;
 use snapshot::{ArcIndex, Part, Snapshot, changed_arcs, tails_of};
 use std::alloc::Global;
 use std::array::from_ref;
@@ -20,10 +21,9 @@ fn compare(one: &Snapshot, other: &Snapshot) -> (usize, bool) {
 
 /// How many arcs a group changes, how many nodes they leave, how many legs the snapshot after it has, and whether one made anew has the same.
 fn closed(alloc: Global) -> Result<(usize, usize, (usize, bool)), Refusal> {
-    let older = six(alloc)?;
-    let mut newer = older.copy()?;
+    let older = SharedNetwork::of(alloc, &six(alloc)?)?;
     let group = Group::one(Command::Close { arc: 7 });
-    newer.apply_group(&group)?;
+    let newer = older.after(alloc, from_ref(&group))?;
     let numbers = changed_arcs(alloc, &older, &newer, from_ref(&group))?;
     let tails = tails_of(alloc, &newer, &numbers)?;
     let before = Snapshot::build(alloc, &older, 5)?;

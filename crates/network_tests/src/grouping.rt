@@ -1,5 +1,6 @@
 use fixtures::{longest, six};
 use roadnet::{Network, Refusal};
+use shared_network::SharedNetwork;
 use snapshot::{Leg, Part, Snapshot, default_delta};
 use std::alloc::Global;
 
@@ -27,7 +28,7 @@ const PARTS: [(u32, Legs, Legs); 6] = [
 
 /// How many nodes of the six-node network have other legs under delta 5.
 fn others(alloc: Global) -> Result<u32, Refusal> {
-    let snapshot = Snapshot::build(alloc, &six(alloc)?, 5)?;
+    let snapshot = Snapshot::build(alloc, &SharedNetwork::of(alloc, &six(alloc)?)?, 5)?;
     let mut count = 0u32;
     for (node, light, heavy) in PARTS {
         let same = are(snapshot.light(node), light) && are(snapshot.heavy(node), heavy);
@@ -46,16 +47,21 @@ fn parts_of_the_six_node_network(rt: HostRuntime) {
     assert!(rt; others(rt.alloc()).expect(&rt, "the network is one") == 0);
 }
 
-/// The width that is taken for a network, if there is one.
-fn width_of(network: Result<Network, Refusal>) -> u32 {
-    match network {
-        Ok(network) => default_delta(&network),
-        Err(_) => 0,
-    }
+/// The width that is taken for a network.
+fn width_of(alloc: Global, network: &Network) -> Result<u32, Refusal> {
+    Ok(default_delta(&SharedNetwork::of(alloc, network)?))
+}
+
+/// The widths that are taken for the six-node network, and for the one with the longest walks.
+fn widths(alloc: Global) -> Result<(u32, u32), Refusal> {
+    Ok((
+        width_of(alloc, &six(alloc)?)?,
+        width_of(alloc, &longest(alloc)?)?,
+    ))
 }
 
 #[test]
 fn the_delta_where_none_is_given(rt: HostRuntime) {
-    assert!(rt; width_of(six(rt.alloc())) == 1);
-    assert!(rt; width_of(longest(rt.alloc())) == 2097152);
+    let widths = widths(rt.alloc()).expect(&rt, "memory");
+    assert!(rt; widths == (1, 2097152));
 }

@@ -5,7 +5,7 @@ ghost use Rattle.machine.specs.Machine.{latest, most_of_life, network_at, of_lif
 use crate::naming::Naming;
 use crate::offices::Office;
 use disk::Disk;
-use roadnet::Network;
+use shared_network::SharedNetwork;
 
 impl<N: Naming, D: Disk> Office<N, D> {
     /// How many commands the groups have that were accepted in this life of the desk: at most 16,777,216.
@@ -24,7 +24,7 @@ impl<N: Naming, D: Disk> Office<N, D> {
     }
 
     /// The network of the shown version.
-    pub fn network(&self) -> &Network
+    pub fn network(&self) -> &SharedNetwork
         ensures { network_at self.now.machine self.now.machine.shown ≡ Some result.now }
     {
         self.keeper.view().network()

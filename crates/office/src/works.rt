@@ -4,9 +4,10 @@ ghost use Rattle.roadnet.specs.Ends.{KeepsEnds};
 ghost use Rattle.snapshot.specs.Blocks.{DiffersOnlyAt};
 
 use history::Front;
-use keeper::{GroupTask, carry_out_in_turn};
-use roadnet::{Network, OutOfMemory};
+use keeper::GroupTask;
+use roadnet::OutOfMemory;
 use rows::View;
+use shared_network::SharedNetwork;
 use snapshot::changed_arcs;
 use std::alloc::Global;
 use std::marker::Model;
@@ -64,25 +65,23 @@ impl Work {
         &self.task.view
     }
 
-    /// The network at the version: a copy of the shown view's, with the groups since carried out. The only error is lack of memory.
+    /// The network at the version: the shown view's after the groups since, with which it shares what they do not change. The only error is lack of memory.
     ///
     /// If version 0 of `examples/six.gr` is shown and `Close { arc: 7 }` is durable, arc 7 is closed in it.
-    pub fn network(&self) -> Result<Network, OutOfMemory>
+    pub fn network(&self, alloc: Global) -> Result<SharedNetwork, OutOfMemory>
         ensures network { IfOk result (λ network. network ≡ self.now.network) }
         // Whatever the commands, arcs keep their ends.
         ensures ends { IfOk result (λ network. KeepsEnds self.now.before.network network) }
     {
-        let mut network = self.task.view.network().copy()?;
-        let groups = &self.task.groups;
-        if carry_out_in_turn(&mut network, groups) < groups.len() {
-            return Err(OutOfMemory);
+        match self.task.view.network().after(alloc, &self.task.groups) {
+            Ok(network) => Ok(network),
+            Err(_) => Err(OutOfMemory),
         }
-        Ok(network)
     }
 
     /// The numbers of all arcs that are not the same in the network at the version as in the shown view's, and of those that are new. The only error is lack
     /// of memory.
-    pub fn changed(&self, alloc: Global, newer: &Network) -> Result<Vec<u32>, OutOfMemory>
+    pub fn changed(&self, alloc: Global, newer: &SharedNetwork) -> Result<Vec<u32>, OutOfMemory>
         requires { newer.now ≡ self.now.network }
         ensures { IfOk result (λ numbers. DiffersOnlyAt numbers.items self.now.before.network newer.now) }
     {

@@ -50,6 +50,12 @@ pub written_more : (test : RoadArc → Bool) (f : ℕ → List ℕ) (arcs : List
     → Appends old mid (flat_map f (arcs_where test (take i arcs))) → Appends mid new (cond (test (get_or arcs i d)) (f (i + 1)) []) → Appends old new (flat_map f (arcs_where test (take (i + 1) arcs)))
 written_more test f arcs i d old mid new lt before here = subst (Appends old new) (sym (where_more test f arcs i d lt)) (Appends-trans old mid new _ _ before here)
 
+-- the same of an arc that was read at its place
+pub written_at : (test : RoadArc → Bool) (f : ℕ → List ℕ) (arcs : List RoadArc) (i : ℕ) (arc : RoadArc) (old mid new : Option (List ℕ)) → i < length arcs → get_or arcs i arc ≡ arc
+    → Appends old mid (flat_map f (arcs_where test (take i arcs))) → Appends mid new (cond (test arc) (f (i + 1)) []) → Appends old new (flat_map f (arcs_where test (take (i + 1) arcs)))
+written_at test f arcs i arc old mid new lt is before here =
+    written_more test f arcs i arc old mid new lt before (subst (λ (x : RoadArc). Appends mid new (cond (test x) (f (i + 1)) [])) (sym is) here)
+
 -- how many they are, one arc more
 one_more : (test : RoadArc → Bool) (arcs : List RoadArc) (i : ℕ) (d : RoadArc) → i < length arcs
     → arcs_where test (take (i + 1) arcs) ≡ arcs_where test (take i arcs) ++ cond (test (get_or arcs i d)) ((1 + length (take i arcs)) ∷ []) []
@@ -90,3 +96,9 @@ pub number_written : (test : RoadArc → Bool) (row : ℕ → Row) (arcs : List 
 number_written test row arcs i d old mid new lt before here =
     subst (Appends old new) (sym (of_rows row (arcs_where test (take (i + 1) arcs))))
     (written_more test (λ k. text_line_of (row k)) arcs i d old mid new lt (subst (Appends old mid) (of_rows row (arcs_where test (take i arcs))) before) here)
+
+-- the same of an arc that was read at its place
+pub number_written_at : (test : RoadArc → Bool) (row : ℕ → Row) (arcs : List RoadArc) (i : ℕ) (arc : RoadArc) (old mid new : Option (List ℕ)) → i < length arcs → get_or arcs i arc ≡ arc
+    → Appends old mid (text_of (map row (arcs_where test (take i arcs)))) → Appends mid new (cond (test arc) (text_line_of (row (i + 1))) []) → Appends old new (text_of (map row (arcs_where test (take (i + 1) arcs))))
+number_written_at test row arcs i arc old mid new lt is before here =
+    number_written test row arcs i arc old mid new lt before (subst (λ (x : RoadArc). Appends mid new (cond (test x) (text_line_of (row (i + 1))) [])) (sym is) here)

@@ -99,7 +99,7 @@ pub(crate) fn put_landmark_rows<W: Write>(
 }
 
 /// `close K`, if the arc K is closed.
-fn put_closing<W: Write>(
+pub(crate) fn put_closing<W: Write>(
     out: &mut CountedWriter<'_, W>,
     number: u64,
     arc: &RoadArc,
@@ -113,7 +113,7 @@ fn put_closing<W: Write>(
 }
 
 /// A line for each closed arc.
-pub(crate) fn put_closing_rows<W: Write>(
+fn put_closing_rows<W: Write>(
     out: &mut CountedWriter<'_, W>,
     arcs: &[RoadArc],
 ) -> Result<(), Failed>

@@ -1,16 +1,19 @@
 //! What an operator may ask about a network, as bytes. No list is made: each number is written during a pass over the network.
-ghost use Rattle.std.specs.Prelude.{◌≡◌, ◌++◌, [], decimal, length, if◌then◌else◌};
+ghost use Rattle.std.specs.Prelude.{◌≡◌, ◌++◌, [], decimal, length, map, if◌then◌else◌};
 ghost use lib.Chars.{codes};
 ghost use Rattle.printing.specs.Chosen.{arcs_where, closed_arcs, leads};
+ghost use Rattle.printing.specs.Exports.{closing_row, text_of};
 ghost use Rattle.printing.specs.Writers.{Puts};
 ghost use Rattle.printing.specs.Looks.{state_word, arc_line, listed_numbers, arc_answer, arcs_answer, landmarks_answer, closed_answer, look_answer, look_lines};
 ghost use Rattle.rows.specs.Replies.{are_nodes};
 
-use crate::exports::{put_closing_rows, put_landmark_rows};
+use crate::exports::{put_closing, put_landmark_rows};
 use crate::failed::Failed;
 use crate::printed::{put_number, put_numbered, put_refusal, put_version};
 use crate::writer::CountedWriter;
-use roadnet::{Network, Refusal, RoadArc};
+use chunked::ChunkedArray;
+use roadnet::{Refusal, RoadArc};
+use shared_network::SharedNetwork;
 use std::io::Write;
 
 /// A question about a network. It may contain any numbers.
@@ -66,7 +69,7 @@ fn put_arc<W: Write>(
 /// The line of the arc of this number, or `no 20`
 pub(crate) fn put_arc_answer<W: Write>(
     out: &mut CountedWriter<'_, W>,
-    network: &Network,
+    network: &SharedNetwork,
     number: u64,
 ) -> Result<(), Failed>
     ensures { Puts W.contents (arc_answer network.now number) result out.old out.new }
@@ -105,12 +108,12 @@ fn put_numbers<W: Write>(
     out: &mut CountedWriter<'_, W>,
     tail: u64,
     head: u64,
-    arcs: &[RoadArc],
+    arcs: &ChunkedArray<RoadArc>,
 ) -> Result<(), Failed>
     ensures { Puts W.contents (listed_numbers (arcs_where (leads tail head) arcs.now)) result out.old out.new }
 {
-    for (index, arc) in arcs.iter().enumerate() {
-        put_where_it_leads(out, tail, head, index as u64 + 1, arc)?;
+    for place in 0..arcs.len() {
+        put_where_it_leads(out, tail, head, place as u64 + 1, arcs.get(place))?;
     }
     Ok(())
 }
@@ -118,7 +121,7 @@ fn put_numbers<W: Write>(
 /// `arcs T H K1 K2 ..`, or `no 24`
 fn put_arcs_answer<W: Write>(
     out: &mut CountedWriter<'_, W>,
-    network: &Network,
+    network: &SharedNetwork,
     tail: u64,
     head: u64,
 ) -> Result<(), Failed>
@@ -134,7 +137,7 @@ fn put_arcs_answer<W: Write>(
 }
 
 /// Whether the network has nodes of both numbers.
-fn has_nodes(network: &Network, tail: u64, head: u64) -> bool
+fn has_nodes(network: &SharedNetwork, tail: u64, head: u64) -> bool
     ensures { result ≡ are_nodes network.now tail head }
 {
     network.has_node(tail) && network.has_node(head)
@@ -143,7 +146,7 @@ fn has_nodes(network: &Network, tail: u64, head: u64) -> bool
 /// `landmarks C`, and `s X` for each
 fn put_landmarks_answer<W: Write>(
     out: &mut CountedWriter<'_, W>,
-    network: &Network,
+    network: &SharedNetwork,
 ) -> Result<(), Failed>
     ensures { Puts W.contents (landmarks_answer network.now) result out.old out.new }
 {
@@ -152,27 +155,40 @@ fn put_landmarks_answer<W: Write>(
 }
 
 /// How many arcs are closed.
-fn count_closed(arcs: &[RoadArc]) -> u64
+fn count_closed(arcs: &ChunkedArray<RoadArc>) -> u64
     ensures { result ≡ length (closed_arcs arcs.now) }
 {
     let mut count = 0;
-    for arc in arcs {
-        if !arc.opened {
+    for place in 0..arcs.len() {
+        if !arcs.get(place).opened {
             count += 1;
         }
     }
     count
 }
 
+/// A line for each closed arc.
+fn put_closed_rows<W: Write>(
+    out: &mut CountedWriter<'_, W>,
+    arcs: &ChunkedArray<RoadArc>,
+) -> Result<(), Failed>
+    ensures { Puts W.contents (text_of (map closing_row (closed_arcs arcs.now))) result out.old out.new }
+{
+    for place in 0..arcs.len() {
+        put_closing(out, place as u64 + 1, arcs.get(place))?;
+    }
+    Ok(())
+}
+
 /// `closed C`, and `close K` for each
 fn put_closed_answer<W: Write>(
     out: &mut CountedWriter<'_, W>,
-    network: &Network,
+    network: &SharedNetwork,
 ) -> Result<(), Failed>
     ensures { Puts W.contents (closed_answer network.now) result out.old out.new }
 {
     put_numbered(out, b"closed ", count_closed(network.arcs()))?;
-    put_closing_rows(out, network.arcs())
+    put_closed_rows(out, network.arcs())
 }
 
 /// The answer to a look at a network. For the arc K from node T to node H of length W it is `a K T H W open` or `a K T H W closed`, or `no 20` if there is
@@ -182,7 +198,7 @@ fn put_closed_answer<W: Write>(
 /// In `examples/six.gr`, the arc 7 is `a 7 5 2 0 open`, and the arcs from node 4 to node 6 are `arcs 4 6 6`. From 6 to 1 there is none: `arcs 6 1`.
 fn put_look_answer<W: Write>(
     out: &mut CountedWriter<'_, W>,
-    network: &Network,
+    network: &SharedNetwork,
     look: Look,
 ) -> Result<(), Failed>
     ensures { Puts W.contents (look_answer network.now look) result out.old out.new }
@@ -198,7 +214,7 @@ fn put_look_answer<W: Write>(
 /// `v V` and the answer to a look.
 pub fn put_look<W: Write>(
     out: &mut CountedWriter<'_, W>,
-    network: &Network,
+    network: &SharedNetwork,
     version: u64,
     look: Look,
 ) -> Result<(), Failed>

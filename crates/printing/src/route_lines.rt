@@ -8,9 +8,9 @@ use crate::failed::Failed;
 use crate::looks::{put_arc_answer, put_part};
 use crate::printed::{put_answer, put_numbered, put_refusal};
 use crate::writer::CountedWriter;
-use roadnet::Network;
 use routes::{Route, RouteReply};
 use rows::{Query, Reply};
+use shared_network::SharedNetwork;
 use std::io::Write;
 
 /// `route S T L C`
@@ -31,7 +31,7 @@ fn put_ends<W: Write>(
 /// The line of each of these arcs of a network, in order.
 fn put_arcs<W: Write>(
     out: &mut CountedWriter<'_, W>,
-    network: &Network,
+    network: &SharedNetwork,
     arcs: &[u32],
 ) -> Result<(), Failed>
     ensures { Puts W.contents (flat_map (arc_answer network.now) arcs.now) result out.old out.new }
@@ -48,7 +48,7 @@ fn put_arcs<W: Write>(
 /// In the network of `examples/six.gr`, a route from 5 to 2 is `route 5 2 0 1` and `a 7 5 2 0 open`.
 pub fn put_route<W: Write>(
     out: &mut CountedWriter<'_, W>,
-    network: &Network,
+    network: &SharedNetwork,
     source: u64,
     target: u64,
     reply: &RouteReply,

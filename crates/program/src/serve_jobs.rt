@@ -92,6 +92,8 @@ pub struct EndedSession<D: Disk> {
 const LAST_ANSWERS: u64 = 1000;
 
 /// Starts a thread for a door. It fails with 11 for lack of memory, and with 63 if the system gives no thread.
+// Not inlined, as some below, so that what these functions hold is not all in the frame of the server's own session.
+#[inline(never)]
 fn start_door<
     S: ServedApart,
     A: BufRead + Send + 'static,
@@ -141,6 +143,7 @@ fn start_each<
 /// Starts a thread for each door, whose sessions have these copies made, and one that ends the server once it can accept no other group. Opens the doors
 /// once all have their threads. If the clients are counted, one more thread reports from then on on the server. It fails with 11 for lack of memory, and
 /// with 63 if the system gives no thread; then the doors stay closed.
+#[inline(never)]
 fn start_doors<
     S: ServedApart,
     A: BufRead + Send + 'static,
@@ -180,6 +183,7 @@ where
 /// built after that. Then sessions at doors that are within an answer have a second to send it.
 ///
 /// A desk that cannot be closed (61) never occurs.
+#[inline(never)]
 fn close_desk<S: Served>(
     threads: S::Runtime,
     desk: Desk<S>,

@@ -50,6 +50,7 @@ where
 
 /// Starts a thread that ends a server once its desk can accept no other group, and does not join it: it ends once the desk is closed, or is cut off when
 /// the program ends. It fails with 11 for lack of memory, and with 63 if the system gives no thread.
+#[inline(never)]
 pub fn start_watching<S: Served + Send + 'static>(
     rt: S::Runtime,
     desk: &Handle<S>,

@@ -104,6 +104,7 @@ where
 
 /// Starts a thread that reports on a server, if its clients are counted, and does not join it: it ends once the desk is closed, or is cut off when the
 /// program ends. If there is no memory or no thread for it, nothing is reported.
+#[inline(never)]
 pub fn start_telling<S: Served + Send + 'static>(rt: S::Runtime, desk: &Handle<S>, guests: Guests)
 where
     S::Naming: Send + Sync + 'static,

@@ -1,10 +1,14 @@
 -- One route more is answered.
-use Rattle.std.proofs.Common.{◌≡◌, ◌∙◌, ℕ, ◌+◌, ◌<◌, List, [], ◌∷◌, ◌++◌, Option, length, get_or, take, sym, ap, subst, append_assoc, append-nil, arith}
+use Rattle.std.proofs.Common.{◌≡◌, ◌∙◌, true, false, refl, ℕ, ◌+◌, ◌<◌, List, [], ◌∷◌, ◌++◌, Option, Some, length, get_or, take, sym, ap, subst, append_assoc, append-nil, arith}
+use Rattle.std.specs.Prelude.{IsSome}
 use Rattle.std.specs.Io.KnownBytes.{Appends}
 use Rattle.std.proofs.KnownBytes.{Appends-trans}
 use Rattle.std.proofs.lemmas.List.{take_more, length-take-le}
 use Rattle.std.proofs.lemmas.Slice.Zip.{all_zipped_more}
 use Rattle.roadnet.specs.Net.{Net}
+use Rattle.roadnet.specs.declared.refusals.Refusal.TheVariants.{NoSuchNode}
+use Rattle.rows.specs.Replies.{are_nodes, query_refusal_of}
+use Rattle.rows.specs.declared.queries.Query.TheVariants.{Dist}
 use Rattle.dimacs.specs.declared.lists.pairs.Pair.{Pair}
 use Rattle.routes.specs.declared.replies.RouteReply.{RouteReply}
 use Rattle.routes.specs.RouteReplies.{IsRightRoute}
@@ -42,3 +46,10 @@ pub right_more : (net : Net) (pairs : List Pair) (replies : List RouteReply) (i 
 right_more net pairs replies i d reply lt before here =
     subst (λ (ps : List Pair). AreRightRoutes net ps (replies ++ reply ∷ [])) (sym (take_more pairs i d lt))
     (all_zipped_more (λ (p : Pair) (r : RouteReply). IsRightRoute net p.source p.target r) (take i pairs) replies (get_or pairs i d) reply before here)
+
+-- a number that is not a node's is refused, and nothing else is
+pub unrouted : (net : Net) (s t : ℕ) → are_nodes net s t ≡ false → query_refusal_of net (Dist s t) ≡ Some NoSuchNode
+unrouted net s t other = rw other refl
+
+pub unrefused : (net : Net) (s t : ℕ) → are_nodes net s t ≡ true → IsSome (query_refusal_of net (Dist s t)) → ⊥
+unrefused net s t are some = absurd (let never : false ≡ true = rw are at some in cc)

@@ -20,6 +20,7 @@ use printing::{CountedWriter, Done, Failed, of_text, put_answer, put_refusal, pu
 use relax::{CHUNK, Crew};
 use roadnet::{Network, OutOfMemory, Refusal};
 use rows::{Query, Reply, Searches};
+use shared_network::SharedNetwork;
 use snapshot::Snapshot;
 use std::alloc::Global;
 use std::io::Write;
@@ -72,7 +73,7 @@ const ROWS: u32 = 1;
 fn group(
     searches: &Searches,
     alloc: Global,
-    network: &Network,
+    network: &SharedNetwork,
     reach: Reach,
 ) -> Result<Snapshot, OutOfMemory>
     ensures { IfOk result (AreGroupsFor network.now reach) }
@@ -84,11 +85,11 @@ fn group(
 }
 
 /// The nodes with walks whose least length is within the limit, ascending. The only error is lack of memory.
-fn find<T: Threads>(
+fn find_in<T: Threads>(
     rt: &T,
     searches: &Searches,
     alloc: Global,
-    network: &Network,
+    network: &SharedNetwork,
     reach: Reach,
     limit: Option<u64>,
 ) -> Result<Vec<NodeDistance>, RowError>
@@ -108,6 +109,23 @@ fn find<T: Threads>(
             reached_in(alloc, &groups, target as u32, limit, &team, &mut workspace)
         }
     }
+}
+
+/// The same of a network that shares nothing, of which it makes a copy.
+fn find<T: Threads>(
+    rt: &T,
+    searches: &Searches,
+    alloc: Global,
+    network: &Network,
+    reach: Reach,
+    limit: Option<u64>,
+) -> Result<Vec<NodeDistance>, RowError>
+    requires network { IsNetwork network.now }
+    requires node { IsNode network.now (center_of reach) }
+    ensures { IfOk result (λ told. IsReachOfText network.now reach limit told.items) }
+{
+    let network = SharedNetwork::of(alloc, network)?;
+    find_in(rt, searches, alloc, &network, reach, limit)
 }
 
 /// Writes one line for each node.
@@ -138,7 +156,7 @@ fn put_found<W: Write>(
 }
 
 /// Writes the version and that there is no such node, and sends them.
-fn put_no_node<W: Write>(out: &mut CountedWriter<'_, W>) -> Result<(), Failed>
+pub(crate) fn put_no_node<W: Write>(out: &mut CountedWriter<'_, W>) -> Result<(), Failed>
     ensures { Puts W.contents (version_line 0 ++ refusal_line (number_of Refusal.NoSuchNode)) result out.old out.new }
 {
     put_version(out, 0)?;

@@ -2,7 +2,7 @@
 ghost use Rattle.std.specs.Prelude.{◌≡◌, ◌++◌, length, OnOk, IfOk, IfErr, IfSome, IsOk, IsSome};
 ghost use Rattle.std.specs.Option.{ForSome};
 ghost use Rattle.rows.specs.Kept.{IsWidth};
-ghost use Rattle.rows.specs.Replies.{query_refusal_of};
+ghost use Rattle.rows.specs.Replies.{are_nodes, query_refusal_of};
 ghost use Rattle.rows.specs.declared.queries.Query.TheVariants.{Dist};
 ghost use Rattle.routes.specs.RouteReplies.{IsRightRoute};
 ghost use Rattle.dimacs.specs.Calling.{KeepsText};
@@ -15,6 +15,7 @@ ghost use Rattle.printing.specs.Writers.{KeepsWriter, Puts};
 ghost use Rattle.querytexts.specs.Once.{Answers, IsOfOnce, IsRefusedOnce};
 ghost use Rattle.querytexts.specs.Route.{routes_lines, AnswersRoute, AnswersRoutes, AreRightRoutes, IsAnsweredRoute};
 
+use crate::reaches::put_no_node;
 use deltastep::Workspace;
 use dimacs::{Pair, Text, read_gr};
 use printing::{CountedWriter, Done, Failed, of_text, put_route, put_version};
@@ -22,6 +23,7 @@ use relax::{CHUNK, Crew};
 use roadnet::{Network, OutOfMemory, Refusal};
 use routes::{RouteReply, answer_route};
 use rows::{Asker, Searches, numbered_back};
+use shared_network::SharedNetwork;
 use std::alloc::Global;
 use std::io::Write;
 use std::thread::Threads;
@@ -34,21 +36,17 @@ const ROWS: u32 = 1;
 /// The version of a text's network.
 const VERSION: u64 = 0;
 
-/// The reply to a question for a route, by a search that ends at the target. The only error is lack of memory. What is refused takes none.
+/// The reply to a question for a route, by a search that ends at the target. The only error is lack of memory.
 fn find<T: Threads>(
     rt: &T,
     searches: &Searches,
     alloc: Global,
-    network: &Network,
+    network: &SharedNetwork,
     s: u64,
     t: u64,
 ) -> Result<RouteReply, OutOfMemory>
-    ensures right { IfOk result (IsRightRoute network.now s t) }
-    ensures refused { IsSome (query_refusal_of network.now (Dist s t)) → IsOk result }
+    ensures { IfOk result (IsRightRoute network.now s t) }
 {
-    if !network.has_node(s) || !network.has_node(t) {
-        return Ok(RouteReply::Refused(Refusal::NoSuchNode));
-    }
     let groups = searches.group(alloc, network)?;
     let back = numbered_back(alloc, network)?;
     let team = Crew::new(rt, CHUNK);
@@ -71,7 +69,7 @@ fn find_all<T: Threads>(
     rt: &T,
     searches: &Searches,
     alloc: Global,
-    network: &Network,
+    network: &SharedNetwork,
     pairs: &[Pair],
 ) -> Result<Vec<RouteReply>, OutOfMemory>
     ensures { IfOk result (λ replies. AreRightRoutes network.now pairs.now replies.items) }
@@ -96,7 +94,7 @@ fn find_all<T: Threads>(
 /// Writes the lines of a route for each pair.
 fn put_routes<W: Write>(
     out: &mut CountedWriter<'_, W>,
-    network: &Network,
+    network: &SharedNetwork,
     pairs: &[Pair],
     replies: &[RouteReply],
 ) -> Result<(), Failed>
@@ -109,6 +107,22 @@ fn put_routes<W: Write>(
         put_route(out, network, source, target, &replies[index])?;
     }
     Ok(())
+}
+
+/// Writes the version and the lines of a route for each pair, and sends them.
+fn put_all<W: Write>(
+    out: &mut CountedWriter<'_, W>,
+    network: &SharedNetwork,
+    version: u64,
+    pairs: &[Pair],
+    replies: &[RouteReply],
+) -> Result<(), Failed>
+    requires { length replies.now ≡ length pairs.now }
+    ensures { Puts W.contents (version_line version ++ routes_lines network.now pairs.now replies.now) result out.old out.new }
+{
+    put_version(out, version)?;
+    put_routes(out, network, pairs, replies)?;
+    out.flush()
 }
 
 /// Writes the network's version and the lines of a route for each pair, in their order, and sends them; or nothing, if there is no memory for all routes (11).
@@ -129,19 +143,20 @@ pub fn answer_routes<T: Threads, W: Write>(
     ensures answers { Answers delta result out.old out.new }
 {
     let searches = Searches::new(delta, ROWS);
-    let Ok(replies) = find_all(rt, &searches, alloc, network, pairs) else {
+    let Ok(network) = SharedNetwork::of(alloc, network) else {
         return Err(Failed::Code(Refusal::OutOfMemory));
     };
-    put_version(out, version)?;
-    put_routes(out, network, pairs, &replies)?;
-    out.flush()?;
+    let Ok(replies) = find_all(rt, &searches, alloc, &network, pairs) else {
+        return Err(Failed::Code(Refusal::OutOfMemory));
+    };
+    put_all(out, &network, version, pairs, &replies)?;
     Ok(Done::by(&searches))
 }
 
 /// Writes the version and the lines of a reply, and sends them.
 fn put_found<W: Write>(
     out: &mut CountedWriter<'_, W>,
-    network: &Network,
+    network: &SharedNetwork,
     s: u64,
     t: u64,
     reply: &RouteReply,
@@ -151,6 +166,13 @@ fn put_found<W: Write>(
     put_version(out, VERSION)?;
     put_route(out, network, s, t, reply)?;
     out.flush()
+}
+
+/// Whether the network has nodes of both numbers.
+fn has_nodes(network: &Network, s: u64, t: u64) -> bool
+    ensures { result ≡ are_nodes network.now s t }
+{
+    network.has_node(s) && network.has_node(t)
 }
 
 /// Writes the version 0 and the lines of a right reply, and sends them; or nothing, if there is no memory for the reply (11).
@@ -170,11 +192,17 @@ fn answer_one<T: Threads, W: Write>(
     ensures memory { IsSome (query_refusal_of network.now (Dist s t)) → IfErr result (λ failed. failed ≡ Failed.Code Refusal.Write) }
 {
     let searches = Searches::new(delta, ROWS);
-    let reply = match find(rt, &searches, alloc, network, s, t) {
-        Ok(reply) => reply,
-        Err(_) => return Err(Failed::Code(Refusal::OutOfMemory)),
+    if !has_nodes(network, s, t) {
+        put_no_node(out)?;
+        return Ok(Done::by(&searches));
+    }
+    let Ok(network) = SharedNetwork::of(alloc, network) else {
+        return Err(Failed::Code(Refusal::OutOfMemory));
     };
-    put_found(out, network, s, t, &reply)?;
+    let Ok(reply) = find(rt, &searches, alloc, &network, s, t) else {
+        return Err(Failed::Code(Refusal::OutOfMemory));
+    };
+    put_found(out, &network, s, t, &reply)?;
     Ok(Done::by(&searches))
 }
 

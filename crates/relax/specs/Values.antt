@@ -16,3 +16,11 @@ no_value = 18446744073709551615
 -- a value or nothing, as one word
 abbrev pub value_of_word : ℕ → Option ℕ
 value_of_word word = if word == no_value then None else Some word
+
+-- the word of 4 bytes that stands for "no value"
+abbrev pub no_short_value : ℕ
+no_short_value = 4294967295
+
+-- a value or nothing, as one word of 4 bytes
+abbrev pub value_of_short : ℕ → Option ℕ
+value_of_short word = if word == no_short_value then None else Some word

@@ -2,11 +2,15 @@
 #![tactic(auto)]
 
 mod crew;
+mod known;
 mod permits;
+mod shared;
 mod team;
 mod tentative;
 
 pub use crew::{CHUNK, Crew};
+pub use known::Known;
 pub use permits::Permit;
-pub use team::{Solo, Team};
+pub use shared::SharedTentative;
+pub use team::{Solo, Team, requests_by};
 pub use tentative::Tentative;

@@ -2,6 +2,7 @@ ghost use Rattle.std.specs.Prelude.{◌≡◌, ℕ, ◌+◌, ◌≤◌, ◌<◌,
 ghost use Rattle.relax.specs.Values.{value_at, value_or};
 ghost use Rattle.relax.specs.Requests.{requests_of};
 
+use crate::known::Known;
 use crate::tentative::Tentative;
 use roadnet::OutOfMemory;
 use snapshot::{Leg, Part, Snapshot};
@@ -38,17 +39,34 @@ impl Team for Solo {
         tentative: &Tentative,
         part: Part,
     ) -> Result<Vec<(u32, u64)>, OutOfMemory> {
-        let count = count(snapshot, nodes, part);
-        if count == 0 {
-            return Ok(Vec::new(alloc));
-        }
-        let mut requests = Vec::with_capacity(alloc, count)?;
-        for node in nodes {
-            let value = tentative.get(*node).unwrap_or(0);
-            push_requests(&mut requests, value, snapshot.legs(*node, part))?;
-        }
-        Ok(requests)
+        requests_by(alloc, snapshot, nodes, tentative, part)
     }
+}
+
+/// The requests of these nodes by these values, computed by one worker: what a team gives for such values. The only error is lack of memory, for 16 bytes a leg.
+#[inline(always)]
+pub fn requests_by<V: Known>(
+    alloc: Global,
+    snapshot: &Snapshot,
+    nodes: &[u32],
+    values: &V,
+    part: Part,
+) -> Result<Vec<(u32, u64)>, OutOfMemory>
+    requires nodes { All (λ u. (1 ≤ u) × (u ≤ snapshot.now.nodes)) nodes.now }
+    requires size { length (V.values values.now) ≡ snapshot.now.nodes + 1 }
+    requires values { All (λ u. IsSome (value_at (V.values values.now) u) × (value_or 0 (V.values values.now) u < 2 ^ 56)) nodes.now }
+    ensures requests { IfOk result (λ list. list.items ≡ requests_of snapshot.now nodes.now (V.values values.now) part) }
+{
+    let count = count(snapshot, nodes, part);
+    if count == 0 {
+        return Ok(Vec::new(alloc));
+    }
+    let mut requests = Vec::with_capacity(alloc, count)?;
+    for node in nodes {
+        let value = values.value(*node).unwrap_or(0);
+        push_requests(&mut requests, value, snapshot.legs(*node, part))?;
+    }
+    Ok(requests)
 }
 
 /// How many legs of the part the nodes have, if that is below 2^64; it is 0 only if they have none.

@@ -1,6 +1,7 @@
 ghost use Rattle.std.specs.Prelude.{◌≡◌, ◌≢◌, [], ◌∷◌, ◌++◌, None, IfSome};
 ghost use Rattle.relax.specs.Values.{no_value};
 
+use crate::known::Known;
 use roadnet::OutOfMemory;
 use std::alloc::Global;
 use std::marker::Model;
@@ -130,13 +131,6 @@ impl Tentative {
         }
     }
 
-    /// The values of these words, from node 1 on. 2^64 - 1 means no value. It takes no memory.
-    pub fn from_words(words: Vec<u64>) -> Tentative
-        ensures { result ≡ None ∷ map value_of_word words.items }
-    {
-        Tentative { words, noted: None }
-    }
-
     /// The value of a node, if it has one.
     pub fn get(&self, node: u32) -> Option<u64>
         requires node { (1 ≤ node) × (node < length self.now) }
@@ -165,7 +159,7 @@ impl Tentative {
     }
 
     /// Removes a node's value.
-    pub fn clear(&mut self, node: u32)
+    fn clear(&mut self, node: u32)
         requires node { (1 ≤ node) × (node < length self.old) }
         ensures cleared { self.new ≡ slice_set self.old node None }
     {
@@ -177,5 +171,14 @@ impl Tentative {
         ensures words { self ≡ None ∷ map value_of_word result.items }
     {
         self.words
+    }
+}
+
+impl Known for Tentative {
+    ghost values = { λ values. values };
+
+    #[inline(always)]
+    fn value(&self, node: u32) -> Option<u64> {
+        self.get(node)
     }
 }

@@ -10,7 +10,7 @@ pub mod Kept
 pub mod Lowest
 pub mod Members
 pub mod Outlined
-pub mod Probed
 pub mod Reversed
+pub mod Seen
 pub mod Stepped
 pub mod TakenBack

@@ -23,5 +23,6 @@ pub use groups::{Group, MOST_OF_GROUP};
 pub use laws::{laws_of_batches, laws_of_refusals, laws_of_steps, laws_of_walks};
 pub use networks::{LONGEST_ARC, MOST_ARCS, MOST_LANDMARKS, MOST_NODES, Network};
 pub use outlines::Outline;
+pub use probes::{Probed, admit_all};
 pub use refusals::{OutOfMemory, Refusal};
 pub use reversal::laws_of_reversal;

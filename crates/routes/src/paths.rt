@@ -11,8 +11,9 @@ ghost use Rattle.routes.specs.Paths.{IsTight, IsNodeDone, AreLegsLooked, IsWay};
 ghost use Rattle.routes.specs.Routes.{TellsRoute};
 
 use crate::replies::Route;
-use deltastep::Known;
-use roadnet::{Network, OutOfMemory, RoadArc};
+use relax::Known;
+use roadnet::{OutOfMemory, RoadArc};
+use shared_network::SharedNetwork;
 use snapshot::{Part, Snapshot};
 use std::alloc::Global;
 
@@ -31,7 +32,12 @@ struct FoundStep {
 }
 
 /// The arc of this number, if it is open and leads to the node, and if a shortest walk to the node may end with it.
-fn tight_arc<V: Known>(network: &Network, values: &V, node: u32, number: u32) -> Option<RoadArc>
+fn tight_arc<V: Known>(
+    network: &SharedNetwork,
+    values: &V,
+    node: u32,
+    number: u32,
+) -> Option<RoadArc>
     requires places { length (V.values values.now) ≡ network.now.nodes + 1 }
     requires node { IsNode network.now node }
     ensures some { IfSome result (IsTight network.now (V.values values.now) node number) }
@@ -53,7 +59,7 @@ fn tight_arc<V: Known>(network: &Network, values: &V, node: u32, number: u32) ->
 
 /// The first tight arc to the node from a node that was not met, if there is one. None of the first `looked` legs of the node is such an arc.
 fn arc_from_new<V: Known>(
-    network: &Network,
+    network: &SharedNetwork,
     back: &Snapshot,
     values: &V,
     met: &[bool],
@@ -101,7 +107,7 @@ fn arcs_of(alloc: Global, steps: &[Step]) -> Result<Vec<u32>, OutOfMemory>
 /// The only error is lack of memory, for a byte a node and 16 an arc of the walk.
 fn way_back<V: Known>(
     alloc: Global,
-    network: &Network,
+    network: &SharedNetwork,
     back: &Snapshot,
     values: &V,
     source: u32,
@@ -151,7 +157,7 @@ fn way_back<V: Known>(
 /// The only error is lack of memory, for a byte a node and 20 an arc of the walk.
 pub(crate) fn route_known<V: Known>(
     alloc: Global,
-    network: &Network,
+    network: &SharedNetwork,
     back: &Snapshot,
     values: &V,
     source: u32,
@@ -189,7 +195,7 @@ fn is_at_zero<V: Known>(values: &V, node: u32) -> bool
 /// source.
 pub(crate) fn route_led<V: Known>(
     alloc: Global,
-    network: &Network,
+    network: &SharedNetwork,
     back: &Snapshot,
     values: &V,
     source: u32,

@@ -59,6 +59,10 @@ pub right_told : (net : Net) (query : Query) (result : Result Reply OutOfMemory)
 right_told net query (Ok reply) none is = right_answer net query reply none is
 right_told net query (Err e) none is = tt
 
+-- two nodes are not refused
+pub nodes_told : (net : Net) (s t : ℕ) → are_nodes net s t ≡ true → query_refusal_of net (Dist s t) ≡ None
+nodes_told net s t e = rw e refl
+
 -- a call that tells no refusal
 pub not_refused : (told net : Net) (query : Query) (result : Option Refusal) → told ≡ net → result ≡ query_refusal_of told query → result ≡ None → query_refusal_of net query ≡ None
 not_refused told net query result same is none = subst (λ (x : Net). query_refusal_of x query ≡ None) same (sym is ∙ none)

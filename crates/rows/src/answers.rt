@@ -11,13 +11,14 @@ use crate::cached::distance;
 use crate::queries::{Query, Reply};
 use deltastep::{Distances, RowError, plain_row};
 use kept_rows::RowCache;
-use roadnet::{Network, OutOfMemory, Refusal};
+use roadnet::{OutOfMemory, Refusal};
+use shared_network::SharedNetwork;
 use snapshot::Snapshot;
 use std::alloc::Global;
 use std::thread::Threads;
 
 /// Why a query is refused, if it is: the lowest refusal that applies.
-pub(crate) fn refusal_of(network: &Network, query: &Query) -> Option<Refusal>
+pub(crate) fn refusal_of(network: &SharedNetwork, query: &Query) -> Option<Refusal>
     ensures refusal { result ≡ query_refusal_of network.now query.now }
     ensures network { IsNetwork network.now }
 {
@@ -55,7 +56,7 @@ pub(crate) fn reply_by<R: Threads>(
     rt: &R,
     alloc: Global,
     version: u64,
-    network: &Network,
+    network: &SharedNetwork,
     snapshot: &Snapshot,
     cache: &mut RowCache,
     source: u64,
@@ -83,7 +84,7 @@ pub(crate) fn reply_by<R: Threads>(
 /// The least length of a walk between two nodes, from a row that is made for it alone.
 fn plain_distance(
     alloc: Global,
-    network: &Network,
+    network: &SharedNetwork,
     source: u64,
     target: u64,
 ) -> Result<Reply, OutOfMemory>
@@ -104,7 +105,11 @@ fn plain_distance(
 ///
 /// In the network of `examples/six.gr` without landmarks, `Dist { source: 1, target: 6 }` is `Length(15)`, `Lower { source: 1, target: 6 }`
 /// `AtLeast(0)`, and `From { landmark: 3, target: 4 }` `Refused(NotALandmark)`.
-pub fn answer_plain(alloc: Global, network: &Network, query: &Query) -> Result<Reply, OutOfMemory>
+pub fn answer_plain(
+    alloc: Global,
+    network: &SharedNetwork,
+    query: &Query,
+) -> Result<Reply, OutOfMemory>
     ensures right { IfOk result (IsRight network.now query.now) }
     ensures refused { IsSome (query_refusal_of network.now query.now) → IsOk result }
 {

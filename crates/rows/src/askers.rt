@@ -20,7 +20,8 @@ use deltastep::{
     reach_in, reach_of_row, reached_in, row_in,
 };
 use relax::{Team, Tentative};
-use roadnet::{Network, OutOfMemory, Refusal};
+use roadnet::{OutOfMemory, Refusal};
+use shared_network::SharedNetwork;
 use snapshot::Snapshot;
 use std::alloc::Global;
 use std::marker::Model;
@@ -30,7 +31,7 @@ use std::marker::Model;
 #[derive(Drop)]
 pub struct Asker<'a> {
     version: u64,
-    network: &'a Network,
+    network: &'a SharedNetwork,
     groups: &'a Snapshot,
     view: Option<&'a View>,
     /// The open arcs the other way round, grouped, if they are given.
@@ -56,7 +57,7 @@ impl<'a> Model for Asker<'a> {
 
 impl<'a> Asker<'a> {
     /// An asker of a network that has only its groups, and no row of a landmark.
-    pub fn of(version: u64, network: &'a Network, groups: &'a Snapshot) -> Asker<'a>
+    pub fn of(version: u64, network: &'a SharedNetwork, groups: &'a Snapshot) -> Asker<'a>
         requires { IsSnapshotOf network.now groups.now }
         ensures { result ≡ record { version = version; network = network.now; delta = groups.now.delta } }
     {
@@ -101,7 +102,7 @@ impl<'a> Asker<'a> {
     }
 
     /// The network.
-    pub fn network(&self) -> &Network
+    pub fn network(&self) -> &SharedNetwork
         ensures { result.now ≡ self.now.network }
     {
         self.network

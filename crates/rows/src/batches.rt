@@ -14,7 +14,8 @@ use crate::queries::Reply;
 use crate::side_by_side::fetch_rows;
 use crate::turning::WIDEST;
 use kept_rows::{DEFAULT_ROWS, RowCache};
-use roadnet::{Network, OutOfMemory};
+use roadnet::OutOfMemory;
+use shared_network::SharedNetwork;
 use snapshot::Snapshot;
 use std::alloc::Global;
 use std::thread::Threads;
@@ -24,7 +25,7 @@ fn in_order<R: Threads, E: PairEnds>(
     rt: &R,
     alloc: Global,
     version: u64,
-    network: &Network,
+    network: &SharedNetwork,
     snapshot: &Snapshot,
     cache: &mut RowCache,
     ends: &E,
@@ -87,7 +88,7 @@ fn by_places<R: Threads, E: PairEnds>(
     rt: &R,
     alloc: Global,
     version: u64,
-    network: &Network,
+    network: &SharedNetwork,
     snapshot: &Snapshot,
     cache: &mut RowCache,
     ends: &E,
@@ -121,7 +122,7 @@ fn by_places<R: Threads, E: PairEnds>(
 fn by_targets<R: Threads, E: PairEnds>(
     rt: &R,
     alloc: Global,
-    network: &Network,
+    network: &SharedNetwork,
     delta: u32,
     ends: &E,
     pairs: &[E::Pair],
@@ -147,7 +148,7 @@ fn by_searches<R: Threads, E: PairEnds>(
     rt: &R,
     alloc: Global,
     version: u64,
-    network: &Network,
+    network: &SharedNetwork,
     snapshot: &Snapshot,
     cache: &mut RowCache,
     ends: &E,
@@ -183,7 +184,7 @@ pub(crate) fn replies_to<R: Threads, E: PairEnds>(
     rt: &R,
     alloc: Global,
     version: u64,
-    network: &Network,
+    network: &SharedNetwork,
     snapshot: &Snapshot,
     cache: &mut RowCache,
     ends: &E,

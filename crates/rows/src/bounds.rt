@@ -6,7 +6,8 @@ use crate::queries::Reply;
 use crate::views::View;
 use deltastep::{RowError, plain_row};
 use kept_rows::told_by;
-use roadnet::{Network, OutOfMemory};
+use roadnet::OutOfMemory;
+use shared_network::SharedNetwork;
 use std::alloc::Global;
 
 /// The reply to `Lower`, unless it is refused, from the rows of the view's landmarks: each is read once. It takes no memory.
@@ -27,7 +28,7 @@ pub(crate) fn bound_by(view: &View, source: u64, target: u64) -> Reply
 /// The same from a row of plain relaxation for each landmark, made for this reply alone. The only error is lack of memory for a row.
 pub(crate) fn plain_bound(
     alloc: Global,
-    network: &Network,
+    network: &SharedNetwork,
     source: u64,
     target: u64,
 ) -> Result<Reply, OutOfMemory>

@@ -13,6 +13,7 @@ ghost use Rattle.rows.specs.Guides.{AreRowsAlike, AreOfSnapshot, PotentialAtTarg
 
 use crate::landmark_rows::Row;
 use crate::views::View;
+use chunked::ChunkedArray;
 use deltastep::{Guide, RowError, Workspace, distance_to_in, values_guided_in};
 use kept_rows::told_by;
 use relax::{Team, Tentative};
@@ -86,18 +87,18 @@ fn leads(row: &Row, target: u32, source: u32, least: u64) -> bool
 /// A row that is kept in words of 4 bytes, and the length of the landmark's way to a target, or 0 if no walk leads there.
 #[derive(Drop)]
 struct Toward<'a> {
-    words: &'a [u32],
+    words: &'a ChunkedArray<u32>,
     to_target: u32,
 }
 
 /// The length that such words have for a node, or 0 if they say that no walk leads there.
-fn length_to(words: &[u32], node: u32) -> u32
+fn length_to(words: &ChunkedArray<u32>, node: u32) -> u32
     ensures { result ≡ unwrap_or (distance_at (map distance_of_short words.now) node) 0 }
 {
     if node == 0 || node as usize > words.len() {
         return 0;
     }
-    let word = words[(node - 1) as usize];
+    let word = *words.get((node - 1) as usize);
     if word == u32::MAX {
         return 0;
     }
@@ -176,7 +177,7 @@ fn told_toward(toward: &Toward, node: u32) -> u32
     requires node { (1 ≤ node) × (node ≤ length toward.now.words.now) }
     ensures { result ≡ told_toward toward.now node }
 {
-    let word = toward.words[(node - 1) as usize];
+    let word = *toward.words.get((node - 1) as usize);
     toward.to_target.saturating_sub(word)
 }
 

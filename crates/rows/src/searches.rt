@@ -1,26 +1,26 @@
 //! Networks that are asked once, as those of texts are.
 
-ghost use Rattle.std.specs.Prelude.{◌≡◌, ◌≤◌, [], IfOk, IsOk, IsSome, OnOk};
+ghost use Rattle.std.specs.Prelude.{◌≡◌, ◌&&◌, ◌≤◌, [], IfOk, IsOk, IsSome, OnOk};
 ghost use Rattle.std.specs.Option.{ForSome};
 ghost use Rattle.roadnet.specs.Net.{IsNetwork};
 ghost use Rattle.roadnet.specs.Reversal.{reversed};
 ghost use Rattle.snapshot.specs.Groups.{IsSnapshotOf};
-ghost use Rattle.rows.specs.Replies.{IsRight, query_refusal_of};
+ghost use Rattle.rows.specs.Replies.{are_nodes, IsRight, query_refusal_of};
 ghost use Rattle.rows.specs.declared.queries.Query.TheVariants.{Dist};
 ghost use Rattle.rows.specs.Batches.{AreRightBy};
 ghost use Rattle.rows.specs.Kept.{AreGroupsOf, IsWidth};
 
-use crate::answers::refusal_of;
 use crate::askers::Asker;
 use crate::batches::replies_to;
 use crate::ends::PairEnds;
-use crate::queries::{Query, Reply};
+use crate::queries::Reply;
 use crate::turning::turned_groups;
 use crate::views::width_of;
 use deltastep::Workspace;
 use kept_rows::RowCache;
 use relax::{CHUNK, Crew};
-use roadnet::{Network, OutOfMemory};
+use roadnet::{Network, OutOfMemory, Refusal};
+use shared_network::SharedNetwork;
 use snapshot::Snapshot;
 use std::alloc::Global;
 use std::thread::Threads;
@@ -28,8 +28,15 @@ use std::thread::Threads;
 /// The version of a network that is asked once.
 const VERSION: u64 = 0;
 
+/// Whether both are nodes of the network.
+fn are_nodes(network: &Network, source: u64, target: u64) -> bool
+    ensures { result ≡ are_nodes network.now source target }
+{
+    network.has_node(source) && network.has_node(target)
+}
+
 /// How networks are asked once: with buckets of this width, or with the network's default if none is given, and with up to so many rows at once. Each call
-/// groups the network's open arcs, with 8 bytes an open arc and 4 a node.
+/// copies the network, with 16 bytes an arc, and groups its open arcs, with 8 bytes an open arc and 4 a node.
 #[derive(Clone, Copy)]
 pub struct Searches {
     delta: Option<u32>,
@@ -58,14 +65,14 @@ impl Searches {
     }
 
     /// The network's open arcs, grouped. The only error is lack of memory.
-    pub fn group(&self, alloc: Global, network: &Network) -> Result<Snapshot, OutOfMemory>
+    pub fn group(&self, alloc: Global, network: &SharedNetwork) -> Result<Snapshot, OutOfMemory>
         ensures { IfOk result (AreGroupsOf network.now self.now.delta) }
     {
         Snapshot::build(alloc, network, width_of(network, self.delta))
     }
 
     /// The same for the arcs the other way round, as `turned_groups` gives them.
-    pub fn turn(&self, alloc: Global, network: &Network) -> Result<Snapshot, OutOfMemory>
+    pub fn turn(&self, alloc: Global, network: &SharedNetwork) -> Result<Snapshot, OutOfMemory>
         ensures network { OnOk result (IsNetwork network.now) }
         ensures arcs { IfOk result (IsSnapshotOf (reversed network.now)) }
     {
@@ -86,13 +93,13 @@ impl Searches {
         ensures right { IfOk result (IsRight network.now (Dist source target)) }
         ensures refused { IsSome (query_refusal_of network.now (Dist source target)) → IsOk result }
     {
-        let query = Query::Dist { source, target };
-        if let Some(refusal) = refusal_of(network, &query) {
-            return Ok(Reply::Refused(refusal));
+        if !are_nodes(network, source, target) {
+            return Ok(Reply::Refused(Refusal::NoSuchNode));
         }
-        let groups = self.group(alloc, network)?;
+        let network = SharedNetwork::of(alloc, network)?;
+        let groups = self.group(alloc, &network)?;
         let crew = Crew::new(rt, CHUNK);
-        let asker = Asker::of(VERSION, network, &groups);
+        let asker = Asker::of(VERSION, &network, &groups);
         asker.distance(
             alloc,
             source as u32,
@@ -122,8 +129,11 @@ impl Searches {
         if pairs.is_empty() {
             return Ok(Vec::new(alloc));
         }
-        let groups = self.group(alloc, network)?;
+        let network = SharedNetwork::of(alloc, network)?;
+        let groups = self.group(alloc, &network)?;
         let mut made = RowCache::new(alloc, self.rows);
-        replies_to(rt, alloc, VERSION, network, &groups, &mut made, ends, pairs)
+        replies_to(
+            rt, alloc, VERSION, &network, &groups, &mut made, ends, pairs,
+        )
     }
 }

@@ -10,19 +10,20 @@ use crate::batches::replies_to;
 use crate::ends::NumberPair;
 use crate::queries::Reply;
 use kept_rows::{DEFAULT_ROWS, RowCache};
-use roadnet::{Network, OutOfMemory, Refusal};
+use roadnet::{OutOfMemory, Refusal};
+use shared_network::SharedNetwork;
 use std::alloc::Global;
 use std::thread::Threads;
 
 /// Whether both are nodes of the network.
-fn are_nodes(network: &Network, source: u64, target: u64) -> bool
+fn are_nodes(network: &SharedNetwork, source: u64, target: u64) -> bool
     ensures { result ≡ are_nodes network.now source target }
 {
     network.has_node(source) && network.has_node(target)
 }
 
 /// Whether both ends of each pair are nodes of the network.
-fn are_pairs(network: &Network, pairs: &[(u64, u64)]) -> bool
+fn are_pairs(network: &SharedNetwork, pairs: &[(u64, u64)]) -> bool
     ensures { result ≡ are_pairs network.now pairs.now }
 {
     pairs.iter().all(|pair| are_nodes(network, pair.0, pair.1))

@@ -6,7 +6,8 @@ ghost use Rattle.roadnet.specs.Reversal.{reversed};
 ghost use Rattle.snapshot.specs.Groups.{IsSnapshotOf};
 ghost use Rattle.rows.specs.Kept.{IsWidth};
 
-use roadnet::{Network, OutOfMemory};
+use roadnet::OutOfMemory;
+use shared_network::SharedNetwork;
 use snapshot::Snapshot;
 use std::alloc::Global;
 
@@ -15,7 +16,11 @@ pub const WIDEST: u32 = 2_147_483_647;
 
 /// The open arcs of a network the other way round, grouped by this width, for searches of the walks to a node. Its only error is lack of memory, for 8
 /// bytes an open arc and 4 a node, and temporarily 20 an arc.
-pub fn turned_groups(alloc: Global, network: &Network, delta: u32) -> Result<Snapshot, OutOfMemory>
+pub fn turned_groups(
+    alloc: Global,
+    network: &SharedNetwork,
+    delta: u32,
+) -> Result<Snapshot, OutOfMemory>
     requires delta { IsWidth delta }
     ensures network { OnOk result (IsNetwork network.now) }
     ensures arcs { IfOk result (IsSnapshotOf (reversed network.now)) }

@@ -17,7 +17,8 @@ use crate::landmark_rows::Row;
 use crate::pinned::Pinned;
 use kept_rows::RowCache;
 use relax::Team;
-use roadnet::{Network, OutOfMemory};
+use roadnet::OutOfMemory;
+use shared_network::SharedNetwork;
 use snapshot::{ArcIndex, Snapshot, default_delta};
 use std::alloc::Global;
 use std::marker::Model;
@@ -31,7 +32,7 @@ use std::sync::Arc;
 #[derive(Drop)]
 pub struct View {
     version: u64,
-    network: Network,
+    network: SharedNetwork,
     snapshot: Snapshot,
     rows: Vec<Row>,
     /// All arcs the other way round, with their numbers.
@@ -56,7 +57,7 @@ impl Model for View {
 }
 
 /// The given width, otherwise the network's default.
-pub(crate) fn width_of(network: &Network, delta: Option<u32>) -> u32
+pub(crate) fn width_of(network: &SharedNetwork, delta: Option<u32>) -> u32
     requires { ForSome delta IsWidth }
     ensures width { result ≡ unwrap_or delta (default_width network.now) }
     ensures fits { IsWidth result }
@@ -71,7 +72,7 @@ pub(crate) fn width_of(network: &Network, delta: Option<u32>) -> u32
 fn rows_of<T: Team>(
     alloc: Global,
     version: u64,
-    network: &Network,
+    network: &SharedNetwork,
     snapshot: &Snapshot,
     team: &T,
 ) -> Result<Vec<Row>, OutOfMemory>
@@ -113,7 +114,7 @@ impl View {
     pub fn build<T: Team>(
         alloc: Global,
         version: u64,
-        network: Network,
+        network: SharedNetwork,
         delta: Option<u32>,
         team: &T,
     ) -> Result<View, OutOfMemory>
@@ -128,7 +129,12 @@ impl View {
     }
 
     /// A view made of its parts: the network's groups, and the rows of its landmarks at this version, in their order. It takes no memory.
-    pub fn assemble(version: u64, network: Network, snapshot: Snapshot, rows: Vec<Row>) -> View
+    pub fn assemble(
+        version: u64,
+        network: SharedNetwork,
+        snapshot: Snapshot,
+        rows: Vec<Row>,
+    ) -> View
         requires snapshot { IsSnapshotOf network snapshot }
         requires rows { AreLandmarkRows version network rows.items }
         ensures { result ≡ record { version = version; network = network; delta = snapshot.delta } }
@@ -189,7 +195,7 @@ impl View {
     }
 
     /// The network.
-    pub fn network(&self) -> &Network
+    pub fn network(&self) -> &SharedNetwork
         ensures { result.now ≡ self.now.network }
     {
         &self.network

@@ -7,10 +7,12 @@ use deltastep::{
 };
 use fixtures::arc;
 use relax::{Solo, Team, Tentative};
-use roadnet::{Command, Network, OutOfMemory, Refusal, RoadArc};
+use roadnet::{Command, Group, Network, OutOfMemory, Refusal, RoadArc};
 use rows::numbered_back;
+use shared_network::SharedNetwork;
 use snapshot::{Part, Snapshot};
 use std::alloc::{AllocError, Global};
+use std::array::from_ref;
 use std::cell::Cell;
 
 /// A team of one worker that counts the requests that it makes.
@@ -121,13 +123,17 @@ fn given_for(alloc: Global, groups: &Snapshot, target: u32) -> Result<u32, Refus
 
 /// What `made_for` counts in the ladder, and how many bounds are given to a search for a node in the middle, 2,500 rungs on.
 fn counted(alloc: Global) -> Result<(usize, usize, u32), Refusal> {
-    let groups = Snapshot::build(alloc, &ladder(alloc)?, 1)?;
+    let groups = Snapshot::build(alloc, &SharedNetwork::of(alloc, &ladder(alloc)?)?, 1)?;
     let (whole, near) = made_for(alloc, &groups)?;
     Ok((whole, near, given_for(alloc, &groups, 5_001)?))
 }
 
 /// How many nodes have other legs after a change, and how many requests are made to repair the row of node 1.
-fn repaired(alloc: Global, before: &Network, after: &Network) -> Result<(usize, usize), Refusal> {
+fn repaired(
+    alloc: Global,
+    before: &SharedNetwork,
+    after: &SharedNetwork,
+) -> Result<(usize, usize), Refusal> {
     let older = Snapshot::build(alloc, before, 1)?;
     let newer = Snapshot::build(alloc, after, 1)?;
     if older.nodes() != newer.nodes() || !newer.has_node(1) {
@@ -162,12 +168,12 @@ fn repaired(alloc: Global, before: &Network, after: &Network) -> Result<(usize, 
 
 /// The same of the ladder, in which one arc gets longer, nine rungs before the end.
 fn repaired_near_the_end(alloc: Global) -> Result<(usize, usize), Refusal> {
-    let before = ladder(alloc)?;
-    let mut after = before.copy()?;
-    after.apply(Command::Set {
+    let before = SharedNetwork::of(alloc, &ladder(alloc)?)?;
+    let group = Group::one(Command::Set {
         arc: 19_961,
         length: 2,
-    })?;
+    });
+    let after = before.after(alloc, from_ref(&group))?;
     repaired(alloc, &before, &after)
 }
 
@@ -185,7 +191,7 @@ fn searches_settle_what_they_have_to(rt: HostRuntime) {
 
 /// How many bounds are given to a search for the node in the middle of the square.
 fn given_in_square(alloc: Global) -> Result<u32, Refusal> {
-    let groups = Snapshot::build(alloc, &square(alloc)?, 128)?;
+    let groups = Snapshot::build(alloc, &SharedNetwork::of(alloc, &square(alloc)?)?, 128)?;
     given_for(alloc, &groups, 1_275)
 }
 

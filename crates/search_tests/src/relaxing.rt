@@ -5,6 +5,7 @@ ghost use Rattle.relax.specs.Values.{value_at, value_or};
 use fixtures::six;
 use relax::{CHUNK, Crew, Solo, Team, Tentative};
 use roadnet::Refusal;
+use shared_network::SharedNetwork;
 use snapshot::{Part, Snapshot};
 use std::alloc::Global;
 
@@ -54,7 +55,7 @@ fn requests<T: Team>(
     values: &[(u32, u64)],
     part: Part,
 ) -> Result<Option<Vec<(u32, u64)>>, Refusal> {
-    let snapshot = Snapshot::build(alloc, &six(alloc)?, 5)?;
+    let snapshot = Snapshot::build(alloc, &SharedNetwork::of(alloc, &six(alloc)?)?, 5)?;
     let Some(tentative) = given(alloc, &snapshot, values)? else {
         return Ok(None);
     };

@@ -4,6 +4,7 @@ use deltastep::{Distances, RowError, plain_row, row};
 use fixtures::{chain, fan, network};
 use relax::{CHUNK, Crew, Solo, Team};
 use roadnet::{Command, Network, Refusal};
+use shared_network::SharedNetwork;
 use snapshot::Snapshot;
 use std::alloc::Global;
 
@@ -42,7 +43,7 @@ const ROWS: [Worked; 8] = [
 ];
 
 /// The row of a node by plain relaxation.
-fn plain_of(alloc: Global, network: &Network, source: u32) -> Result<Distances, Refusal> {
+fn plain_of(alloc: Global, network: &SharedNetwork, source: u32) -> Result<Distances, Refusal> {
     if !network.has_node(u64::from(source)) {
         return Err(Refusal::NoSuchNode);
     }
@@ -55,7 +56,7 @@ fn plain_of(alloc: Global, network: &Network, source: u32) -> Result<Distances, 
 /// The row of a node under this delta, by this team.
 fn row_by<T: Team>(
     alloc: Global,
-    network: &Network,
+    network: &SharedNetwork,
     source: u32,
     delta: u32,
     team: &T,
@@ -85,12 +86,17 @@ fn is(row: &Distances, want: &[u64]) -> bool {
 }
 
 /// The network of a worked row.
-fn network_of(alloc: Global, nodes: u32, arcs: Arcs, closed: &[u64]) -> Result<Network, Refusal> {
+fn network_of(
+    alloc: Global,
+    nodes: u32,
+    arcs: Arcs,
+    closed: &[u64],
+) -> Result<SharedNetwork, Refusal> {
     let mut network = network(alloc, nodes, arcs, &[])?;
     for &arc in closed {
         network.apply(Command::Close { arc })?;
     }
-    Ok(network)
+    Ok(SharedNetwork::of(alloc, &network)?)
 }
 
 /// Whether a node has this row by plain relaxation, and under each delta from the least to the greatest.
@@ -125,6 +131,7 @@ fn agree(one: &Distances, other: &Distances) -> bool {
 
 /// Whether the row of node 1 by one worker, and by this team, is the plain one.
 fn is_plain_by<T: Team>(alloc: Global, network: &Network, team: &T) -> Result<bool, Refusal> {
+    let network = &SharedNetwork::of(alloc, network)?;
     let plain = plain_of(alloc, network, 1)?;
     let alone = agree(&row_by(alloc, network, 1, 3, &Solo)?, &plain);
     Ok(alone && agree(&row_by(alloc, network, 1, 3, team)?, &plain))

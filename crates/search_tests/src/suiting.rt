@@ -5,6 +5,7 @@ use deltastep::{ring_size, row_from, suits};
 use fixtures::{network, six};
 use relax::Solo;
 use roadnet::Refusal;
+use shared_network::SharedNetwork;
 use snapshot::Snapshot;
 use std::alloc::{AllocError, Global};
 
@@ -87,7 +88,7 @@ fn takes_as_told<Q: BucketQueue + Drop>(
 
 /// The first queue whose takings are others, or that does not suit: 1 for ordered buckets, 2 for a ring of five; 0 where both are right.
 fn first_other(alloc: Global) -> Result<u32, Refusal> {
-    let snapshot = Snapshot::build(alloc, &six(alloc)?, 5)?;
+    let snapshot = Snapshot::build(alloc, &SharedNetwork::of(alloc, &six(alloc)?)?, 5)?;
     if !takes_as_told(alloc, &snapshot, OrderedBuckets::new(alloc, 5))? {
         return Ok(1);
     }
@@ -110,7 +111,7 @@ fn size_for(alloc: Global, length: u32, delta: u32) -> Result<Option<u32>, Refus
     if delta == 0 || delta > 2147483647 {
         return Err(Refusal::NumberRange);
     }
-    let network = network(alloc, 2, &[(1, 2, length)], &[])?;
+    let network = SharedNetwork::of(alloc, &network(alloc, 2, &[(1, 2, length)], &[])?)?;
     Ok(ring_size(&Snapshot::build(alloc, &network, delta)?))
 }
 

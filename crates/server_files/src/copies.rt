@@ -5,6 +5,7 @@ ghost use Rattle.server_files.specs.Copied.{IsCopyOf, copies_in, copy_refusal_of
 ghost use Rattle.file_jobs.specs.Failures.{IsFileUnopened};
 ghost use Rattle.words.specs.Words.{IsJournal};
 
+use crate::flat::flat_copy;
 use disk::Disk;
 use file_jobs::open_folder;
 use filedisk::{NewFile, OpenError, create_file_here};
@@ -13,6 +14,7 @@ use printing::Failed;
 use progress::Progress;
 use roadnet::{Network, Refusal};
 use session_lines::Copies;
+use shared_network::SharedNetwork;
 use std::alloc::{AllocError, Global};
 use std::fs::File;
 use std::rt::Files;
@@ -23,6 +25,7 @@ use words::MOST_JOURNAL_PAGES;
 /// Makes a copy of the network at this version on an empty disk: a store with so many journal pages, 1 to 65,536.
 ///
 /// It is refused if the disk is not empty (46), if the disk fails (43), for lack of memory (11), and for a version above 2^48, which never occurs (10).
+#[inline(never)]
 pub fn copy_store<D: Disk>(
     alloc: Global,
     disk: D,
@@ -101,11 +104,12 @@ impl<T: AllocGlobal + Files<File = File>> Copies for FileCopies<T> {
 
     /// The file is made, locked and synced as that of `create`, but a link of its name is refused, so no copy leaves the folder. A file that this call made
     /// and that holds no store in the end is removed while it is still locked. A file that was there before stays as it was; if it was empty, it is used.
+    #[inline(never)]
     fn copy(
         &self,
         alloc: Global,
         name: &[u8],
-        network: &Network,
+        network: &SharedNetwork,
         version: u64,
     ) -> Result<(), Refusal> {
         let Some(folder) = &self.folder else {
@@ -114,11 +118,14 @@ impl<T: AllocGlobal + Files<File = File>> Copies for FileCopies<T> {
         let Ok(path) = path_of(alloc, folder.as_str(), name) else {
             return Err(Refusal::OutOfMemory);
         };
+        let Ok(network) = flat_copy(alloc, network) else {
+            return Err(Refusal::OutOfMemory);
+        };
         let NewFile { disk, made } = match create_file_here(&self.rt, path.as_str()) {
             Ok(file) => file,
             Err(error) => return Err(refusal_of(error)),
         };
-        let (outcome, locked) = copy_store(alloc, disk, network, version, self.journal_pages);
+        let (outcome, locked) = copy_store(alloc, disk, &network, version, self.journal_pages);
         if let Some(made) = made
             && outcome.is_err()
         {

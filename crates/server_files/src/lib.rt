@@ -4,6 +4,7 @@
 mod copies;
 mod deeds;
 mod doors;
+mod flat;
 mod guests;
 mod pipes;
 

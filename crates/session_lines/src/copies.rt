@@ -3,7 +3,8 @@ ghost use Rattle.std.specs.Prelude.{◌≡◌, true, IfErr, OnOk};
 ghost use Rattle.session_lines.specs.Names.{is_name};
 ghost use Rattle.session_lines.specs.Copying.{IsUnmade, asking_alone, no_copying};
 
-use roadnet::{Network, Refusal};
+use roadnet::Refusal;
+use shared_network::SharedNetwork;
 use std::alloc::Global;
 
 /// Whoever makes copies of a network while its desk is served, each a store of its own; and whether the sessions for which it makes them may change the
@@ -31,7 +32,7 @@ pub trait Copies {
         &self,
         _alloc: Global,
         name: &[u8],
-        network: &Network,
+        network: &SharedNetwork,
         version: u64,
     ) -> Result<(), Refusal>
         requires { is_name name.now ≡ true }

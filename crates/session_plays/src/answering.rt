@@ -11,8 +11,9 @@ use desk::{Closed, Desk, Handle, History, Naming, Reader, Served, Setup};
 use dimacs::Counted;
 use disk::Disk;
 use printing::{CountedWriter, Failed};
-use roadnet::{Network, Refusal};
+use roadnet::Refusal;
 use sessions::{Answering, Copies, LastLine, Terms, serve};
+use shared_network::SharedNetwork;
 use stages::{CaseRuntime, Kept, OfCase, Watch, gate_of, left_by, setup_of, store_of};
 use std::alloc::Global;
 use std::io::{self, BufReader, ErrorKind, Read, Write};
@@ -76,6 +77,18 @@ impl Looked {
     }
 }
 
+/// How many arcs of a network are closed.
+fn closed_of(network: &SharedNetwork) -> u64 {
+    let arcs = network.arcs();
+    let mut closed = 0u64;
+    for place in 0..arcs.len() {
+        if !arcs.get(place).opened {
+            closed = closed.saturating_add(1);
+        }
+    }
+    closed
+}
+
 impl Copies for Looked {
     ghost use Rattle.std.specs.Prelude.{not, ⊤};
 
@@ -93,12 +106,11 @@ impl Copies for Looked {
         &self,
         _alloc: Global,
         name: &[u8],
-        network: &Network,
+        network: &SharedNetwork,
         version: u64,
     ) -> Result<(), Refusal> {
         self.asked.fetch_add(1, Ordering::SeqCst);
-        let closed = network.arcs().iter().filter(|arc| !arc.opened).count();
-        if closed as u64 == version {
+        if closed_of(network) == version {
             self.fit.fetch_add(1, Ordering::SeqCst);
         }
         match name {

@@ -2,7 +2,9 @@ ghost use Rattle.std.specs.Prelude.{◌≡◌, ℕ, ◌*◌, ◌≤◌, ◌<◌,
 ghost use Rattle.snapshot.specs.Blocks.{places_of_block};
 
 use crate::blocks::BLOCK;
-use roadnet::{Network, OutOfMemory, RoadArc};
+use chunked::ChunkedArray;
+use roadnet::{OutOfMemory, RoadArc};
+use shared_network::SharedNetwork;
 use std::alloc::{AllocError, Global};
 use std::marker::Model;
 
@@ -33,7 +35,7 @@ fn empty_lists(alloc: Global, count: usize) -> Result<Vec<Vec<u32>>, AllocError>
 }
 
 /// Adds the places of the arcs to the lists of their blocks, which are empty.
-fn add_places(lists: &mut [Vec<u32>], arcs: &[RoadArc]) -> Result<(), AllocError>
+fn add_places(lists: &mut [Vec<u32>], arcs: &ChunkedArray<RoadArc>) -> Result<(), AllocError>
     requires few { length arcs.now ≤ 2 ^ 26 }
     requires tails { All (λ arc. arc.tail < length lists.old * 1024) arcs.now }
     requires empty { (block : ℕ) → block < length lists.old → slice_index_or (map (λ list. list.items) lists.old) block [] ≡ [] }
@@ -41,7 +43,7 @@ fn add_places(lists: &mut [Vec<u32>], arcs: &[RoadArc]) -> Result<(), AllocError
     ensures blocks { length lists.new ≡ length lists.old }
 {
     for place in 0..arcs.len() {
-        let block = (arcs[place].tail / BLOCK) as usize;
+        let block = (arcs.get(place).tail / BLOCK) as usize;
         lists[block].push(place as u32)?;
     }
     Ok(())
@@ -51,7 +53,7 @@ impl ArcIndex {
     ghost use Rattle.snapshot.specs.Blocks.{AreArcsByBlock};
 
     /// The index of a network's arcs, by a pass over them. The one error is want of memory.
-    pub fn build(alloc: Global, network: &Network) -> Result<ArcIndex, OutOfMemory>
+    pub fn build(alloc: Global, network: &SharedNetwork) -> Result<ArcIndex, OutOfMemory>
         ensures { IfOk result (AreArcsByBlock network.now.nodes network.now.arcs) }
     {
         let count = (network.nodes() / BLOCK) as usize + 1;

@@ -5,7 +5,8 @@ ghost use Rattle.roadnet.specs.Step.{after};
 ghost use Rattle.snapshot.specs.Blocks.{DiffersOnlyAt};
 ghost use Rattle.snapshot.specs.Changes.{named_by};
 
-use roadnet::{Command, Group, Network, OutOfMemory};
+use roadnet::{Command, Group, OutOfMemory};
+use shared_network::SharedNetwork;
 use std::alloc::{AllocError, Global};
 
 /// The number, if an arc may have it.
@@ -67,8 +68,8 @@ fn add_laid(numbers: &mut Vec<u32>, first: u32, last: u32) -> Result<(), AllocEr
 /// memory.
 pub fn changed_arcs(
     alloc: Global,
-    older: &Network,
-    newer: &Network,
+    older: &SharedNetwork,
+    newer: &SharedNetwork,
     groups: &[Group],
 ) -> Result<Vec<u32>, OutOfMemory>
     requires { after older.now groups.now ≡ Some newer.now }

@@ -5,6 +5,7 @@ ghost use Rattle.roadnet.specs.declared.arcs.RoadArc.{RoadArc as road_arc};
 ghost use Rattle.snapshot.specs.Blocks.{AreBlockParts, AreBlocksOf, arcs_of_block, block_parts, places_of_block, within_block};
 
 use crate::blocks::{BLOCK, Block};
+use chunked::ChunkedArray;
 use roadnet::RoadArc;
 use std::alloc::{AllocError, Global};
 use std::sync::Arc;
@@ -22,13 +23,17 @@ fn within_block(arc: &RoadArc) -> RoadArc
 }
 
 /// The arcs at these places, their tails counted from the first one of their block, in a list whose earlier content is lost.
-fn find_arcs(found: &mut Vec<RoadArc>, arcs: &[RoadArc], places: &[u32]) -> Result<(), AllocError>
+fn find_arcs(
+    found: &mut Vec<RoadArc>,
+    arcs: &ChunkedArray<RoadArc>,
+    places: &[u32],
+) -> Result<(), AllocError>
     requires { All (λ place. place < length arcs.now) places.now }
     ensures { OnOk result ((d : road_arc) → found.new.items ≡ map (λ place. within_block (slice_index_or arcs.now place d)) places.now) }
 {
     found.clear();
     for &place in places {
-        found.push(within_block(&arcs[place as usize]))?;
+        found.push(within_block(arcs.get(place as usize)))?;
     }
     Ok(())
 }
@@ -36,7 +41,7 @@ fn find_arcs(found: &mut Vec<RoadArc>, arcs: &[RoadArc], places: &[u32]) -> Resu
 /// The arcs of a block, at whose places they are, grouped. The list is for the time being.
 fn regrouped(
     alloc: Global,
-    arcs: &[RoadArc],
+    arcs: &ChunkedArray<RoadArc>,
     places: &[u32],
     delta: u32,
     found: &mut Vec<RoadArc>,
@@ -53,7 +58,7 @@ fn regrouped(
 /// The blocks of all arcs.
 pub(crate) fn all_blocks(
     alloc: Global,
-    arcs: &[RoadArc],
+    arcs: &ChunkedArray<RoadArc>,
     index: &[Vec<u32>],
     delta: u32,
 ) -> Result<Vec<Arc<Block>>, AllocError>
@@ -71,14 +76,14 @@ pub(crate) fn all_blocks(
 }
 
 /// Marks the block of the arc of this number, if there is one.
-fn touch(touched: &mut [bool], arcs: &[RoadArc], number: u32)
+fn touch(touched: &mut [bool], arcs: &ChunkedArray<RoadArc>, number: u32)
     requires tails { All (λ arc. arc.tail < length touched.old * 1024) arcs.now }
     ensures own { (place : ℕ) (d : road_arc) → place < length arcs.now → place + 1 ≡ number → slice_index_or touched.new ((slice_index_or arcs.now place d).tail / 1024) true ≡ true }
     ensures kept { (block : ℕ) → slice_index_or touched.old block true ≡ true → slice_index_or touched.new block true ≡ true }
     ensures count { length touched.new ≡ length touched.old }
 {
     if 1 <= number && number as usize <= arcs.len() {
-        let tail = arcs[number as usize - 1].tail;
+        let tail = arcs.get(number as usize - 1).tail;
         touched[(tail / BLOCK) as usize] = true;
     }
 }
@@ -86,7 +91,7 @@ fn touch(touched: &mut [bool], arcs: &[RoadArc], number: u32)
 /// Which of so many blocks are touched, if these arcs change.
 pub(crate) fn touched_blocks(
     alloc: Global,
-    arcs: &[RoadArc],
+    arcs: &ChunkedArray<RoadArc>,
     changed: &[u32],
     count: usize,
 ) -> Result<Vec<bool>, AllocError>
@@ -105,7 +110,7 @@ pub(crate) fn touched_blocks(
 fn next_block(
     alloc: Global,
     old: &Arc<Block>,
-    arcs: &[RoadArc],
+    arcs: &ChunkedArray<RoadArc>,
     places: &[u32],
     delta: u32,
     touched: bool,
@@ -125,7 +130,7 @@ fn next_block(
 pub(crate) fn blocks_after(
     alloc: Global,
     old: &[Arc<Block>],
-    arcs: &[RoadArc],
+    arcs: &ChunkedArray<RoadArc>,
     index: &[Vec<u32>],
     delta: u32,
     touched: &[bool],

@@ -12,7 +12,8 @@ ghost use Rattle.printing.specs.Writers.{KeepsWriter, Puts};
 
 use disk::Disk;
 use printing::{CountedWriter, Failed, Look, put_look};
-use roadnet::Network;
+use roadnet::Refusal;
+use shared_network::SharedNetwork;
 use std::alloc::Global;
 use std::io::Write;
 use store::open;
@@ -20,7 +21,7 @@ use store::open;
 /// The version and the answer line, sent.
 fn put_shown<W: Write>(
     out: &mut CountedWriter<'_, W>,
-    network: &Network,
+    network: &SharedNetwork,
     version: u64,
     look: Look,
 ) -> Result<(), Failed>
@@ -60,6 +61,9 @@ pub fn show_text<D: Disk, W: Write>(
         Ok(store) => store,
         Err((refusal, disk)) => return (Err(Failed::Code(refusal)), disk),
     };
-    let told = put_shown(out, store.network(), store.version(), look);
+    let Ok(network) = SharedNetwork::of(alloc, store.network()) else {
+        return (Err(Failed::Code(Refusal::OutOfMemory)), store.close());
+    };
+    let told = put_shown(out, &network, store.version(), look);
     (told, store.close())
 }

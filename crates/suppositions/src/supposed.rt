@@ -16,9 +16,10 @@ ghost use Rattle.suppositions.specs.Supposing.{Supposes};
 
 use deltastep::{NodeDistance, Workspace};
 use relax::{CHUNK, Crew};
-use roadnet::{Group, Network, OutOfMemory, Refusal};
+use roadnet::{Group, OutOfMemory, Refusal};
 use routes::{RouteReply, answer_route};
 use rows::{Asker, Near, Reply, RowCache, WIDEST, numbered_back};
+use shared_network::SharedNetwork;
 use snapshot::Snapshot;
 use std::alloc::Global;
 use std::array::from_ref;
@@ -26,16 +27,17 @@ use std::marker::Model;
 use std::sync::Arc;
 use std::thread::Threads;
 
-/// A supposed network: a copy of a network at some version, with a group of commands carried out. Its owner does not share it: later changes of the
-/// original network do not change it, and questions to it change nothing elsewhere.
+/// A supposed network: a network at some version, with a group of commands carried out. It shares with the original network the arcs that the group does not
+/// change: later changes of that network do not change it, and questions to it change nothing elsewhere.
 ///
-/// It takes what a network takes; 8 bytes an open arc and 4 a node for the groups of its arcs; as much again for the reversed arcs, once it was asked what
-/// reaches a node; 8 an arc and 4 a node for all arcs reversed with their numbers, once it was asked for a route, unless it was given those of the original
-/// network; 4 or 8 a node for one row, that of a source that was asked twice; and the memory of two searches. It has no rows of landmarks.
+/// It takes 16,384 bytes for each 1,024 arcs of which the group changes one; 8 bytes an open arc and 4 a node for the groups of its arcs; as much again for
+/// the reversed arcs, once it was asked what reaches a node; 8 an arc and 4 a node for all arcs reversed with their numbers, once it was asked for a route,
+/// unless it was given those of the original network; 4 or 8 a node for one row, that of a source that was asked twice; and the memory of two searches. It
+/// has no rows of landmarks.
 #[derive(Drop)]
 pub struct Supposed {
     version: u64,
-    network: Network,
+    network: SharedNetwork,
     groups: Snapshot,
     /// The open arcs the other way round, grouped, once they are needed.
     turned: Option<Snapshot>,
@@ -66,7 +68,7 @@ impl Model for Supposed {
 }
 
 /// Whether all of these are nodes.
-fn has_nodes(network: &Network, nodes: &[u64]) -> bool
+fn has_nodes(network: &SharedNetwork, nodes: &[u64]) -> bool
     ensures { IsTrue result ↔ All (IsNode network.now) nodes.now }
 {
     for node in nodes {
@@ -89,8 +91,8 @@ fn shared(back: &Arc<Snapshot>) -> Result<Arc<Snapshot>, OutOfMemory>
 
 /// The reversed arcs of the network before a change, if they are those of the network after it, because no arc was laid.
 fn back_since(
-    before: &Network,
-    after: &Network,
+    before: &SharedNetwork,
+    after: &SharedNetwork,
     back: Option<Arc<Snapshot>>,
 ) -> Option<Arc<Snapshot>>
     requires back { ForSome back (λ back. LeadsBack before.now back.value) }
@@ -116,7 +118,7 @@ impl Supposed {
     pub fn new(
         alloc: Global,
         version: u64,
-        network: &Network,
+        network: &SharedNetwork,
         back: Option<Arc<Snapshot>>,
         delta: u32,
         group: &Group,
@@ -125,9 +127,7 @@ impl Supposed {
         ensures supposed { IfOk result (Supposes version network.now group.now) }
         ensures refused { IfErr result (MayRefuseBatch network.now group.now) }
     {
-        network.admit_groups(from_ref(group))?;
-        let mut after = network.copy()?;
-        after.apply_group(group)?;
+        let after = network.after(alloc, from_ref(group))?;
         let groups = Snapshot::build(alloc, &after, delta.max(1).min(WIDEST))?;
         let back = back_since(network, &after, back);
         Ok(Supposed {
@@ -149,7 +149,7 @@ impl Supposed {
     }
 
     /// The network with the group carried out.
-    pub fn network(&self) -> &Network
+    pub fn network(&self) -> &SharedNetwork
         ensures { result.now ≡ self.now.network }
     {
         &self.network

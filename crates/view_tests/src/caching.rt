@@ -7,6 +7,7 @@ use fixtures::{six, six_with};
 use relax::Solo;
 use roadnet::{OutOfMemory, Refusal};
 use rows::{Asker, Query, Reply, RowCache, View, answer_plain};
+use shared_network::SharedNetwork;
 use snapshot::Snapshot;
 use std::alloc::Global;
 use std::thread::Threads;
@@ -46,7 +47,7 @@ fn kept_in_turn<R: Threads>(
 
 /// The same in the six-node network, by a new cache of one row.
 fn kept_of_six<R: Threads>(rt: &R, alloc: Global) -> Result<[usize; 6], Refusal> {
-    let network = six(alloc)?;
+    let network = SharedNetwork::of(alloc, &six(alloc)?)?;
     let groups = Snapshot::build(alloc, &network, 3)?;
     let asker = Asker::of(0, &network, &groups);
     let mut cache = RowCache::new(alloc, 1);
@@ -108,7 +109,13 @@ fn asked_together<R: Threads>(
 
 /// A view of the six-node network with these landmarks.
 fn view_of_six(alloc: Global, landmarks: &[u32]) -> Result<View, Refusal> {
-    Ok(View::build(alloc, 1, six_with(alloc, landmarks)?, None, &Solo)?)
+    Ok(View::build(
+        alloc,
+        1,
+        SharedNetwork::of(alloc, &six_with(alloc, landmarks)?)?,
+        None,
+        &Solo,
+    )?)
 }
 
 /// Pairs, and how many rows their batch leaves in a cache of 16, with that of node 2. Rows are made of sources that have none, and kept; where the targets

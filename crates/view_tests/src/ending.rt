@@ -6,6 +6,7 @@ use fixtures::arc;
 use relax::Solo;
 use roadnet::{Network, Refusal};
 use rows::{Asker, Near, View};
+use shared_network::SharedNetwork;
 use std::alloc::{AllocError, Global};
 use std::time::{Clock, Duration, Instant};
 
@@ -87,7 +88,13 @@ fn ending_early<R: Clock>(rt: &R, alloc: Global, asker: &Asker<'_>) -> usize {
 
 /// The same of a view of the line, with its arcs turned round.
 fn ending_early_in_a_line<R: Clock>(rt: &R, alloc: Global) -> Result<usize, Refusal> {
-    let view = View::build(alloc, 1, line(alloc)?, None, &Solo)?;
+    let view = View::build(
+        alloc,
+        1,
+        SharedNetwork::of(alloc, &line(alloc)?)?,
+        None,
+        &Solo,
+    )?;
     let turned = view.asker().turn(alloc)?;
     Ok(ending_early(rt, alloc, &view.asker().with_turned(&turned)))
 }

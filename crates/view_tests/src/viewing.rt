@@ -5,6 +5,7 @@ use fixtures::{network, six_with};
 use relax::Solo;
 use roadnet::{OutOfMemory, Refusal};
 use rows::{Landmarks, Query, Reply, RowCache, View, answer_plain, numbered_back};
+use shared_network::SharedNetwork;
 use std::alloc::Global;
 use std::sync::Arc;
 use std::thread::Threads;
@@ -34,7 +35,13 @@ type Row = (Asked, u64, u64, Reply);
 
 /// A view of the six-node network with these landmarks.
 fn view_of_six(alloc: Global, landmarks: &[u32]) -> Result<View, Refusal> {
-    Ok(View::build(alloc, 1, six_with(alloc, landmarks)?, None, &Solo)?)
+    Ok(View::build(
+        alloc,
+        1,
+        SharedNetwork::of(alloc, &six_with(alloc, landmarks)?)?,
+        None,
+        &Solo,
+    )?)
 }
 
 /// Whether a view and the slow answer give this reply to a query.
@@ -105,7 +112,7 @@ const WAYS: [(u32, u32, u32); 4] = [(1, 3, 2048), (3, 5, 2048), (2, 4, 2048), (4
 
 /// What leads a search from node 3 to node 5 at node 4, behind the other landmark, and the width of the arcs turned round.
 fn led_and_turned(alloc: Global) -> Result<(u64, u32), Refusal> {
-    let network = network(alloc, 5, &WAYS, &[1, 2])?;
+    let network = SharedNetwork::of(alloc, &network(alloc, 5, &WAYS, &[1, 2])?)?;
     let view = View::build(alloc, 1, network, None, &Solo)?;
     let turned = view.asker().turn(alloc)?;
     let guide = Landmarks::new(alloc, view.rows(), 3, 5);

@@ -31,10 +31,10 @@ pub(crate) trait Question {
     /// The right answers in a network, from a source.
     ghost answers: { Self → Net → ℕ → List NodeDistance → Type 0 };
 
-    /// Whether values that are final up to this length are enough.
-    fn is_enough(&self, values: &Tentative, end: u64) -> bool
-        requires suits { suits self.now (length values.now) }
-        ensures { Decides result (suffices self.now values.now end) };
+    /// Whether the values of this frontier, which are final up to this length, are enough.
+    fn is_enough<F: Frontier>(&self, frontier: &F, end: u64) -> bool
+        requires suits { suits self.now (length (F.tentative frontier.now)) }
+        ensures { Decides result (suffices self.now (F.tentative frontier.now) end) };
 
     /// The answer, given values that are final up to this length, or all of them if there is none. The only error is lack of memory.
     fn answer(
@@ -80,7 +80,7 @@ impl<F: Frontier> Search<F> {
             alloc, snapshot, team, &mut taken,
         )? {
             let end = last_of(bucket, delta);
-            if is_settled && asked.is_enough(self.frontier.values(), end) {
+            if is_settled && asked.is_enough(&self.frontier, end) {
                 return Ok(Some(end));
             }
         }

@@ -9,20 +9,21 @@ ghost use Rattle.deltastep.specs.Reach.{AreFinal, AreNearest, AreNodesOfRow, Are
 
 use crate::questions::asked::{Question, answer_in};
 use crate::rows::distances::{Distances, RowError};
-use crate::rows::known::{Known, NodeDistance, is_known, known_among, told};
+use crate::rows::known::{NodeDistance, is_known, known_among, told};
 use crate::searches::workspace::Workspace;
-use relax::{Team, Tentative};
+use frontier::Frontier;
+use relax::{Known, Team, Tentative};
 use snapshot::Snapshot;
 use std::alloc::Global;
 
 /// How many of these nodes have values up to the end.
-fn count_known(values: &Tentative, among: &[u32], end: u64) -> usize
-    requires nodes { AreNodesOfRow values.now among.now }
-    ensures { result ≡ count_by (has_within values.now (Some end)) among.now }
+fn count_known<F: Frontier>(frontier: &F, among: &[u32], end: u64) -> usize
+    requires nodes { AreNodesOfRow (F.tentative frontier.now) among.now }
+    ensures { result ≡ count_by (has_within (F.tentative frontier.now) (Some end)) among.now }
 {
     let mut count: usize = 0;
     for &node in among {
-        if is_known(values, node, Some(end)) {
+        if is_known(frontier.value(node), Some(end)) {
             count += 1;
         }
     }
@@ -63,9 +64,9 @@ impl<'a> Question for Nearest<'a> {
 
     ghost answers = { λ asked net source told. AreNearest net source asked.among.now asked.count told };
 
-    fn is_enough(&self, values: &Tentative, end: u64) -> bool {
+    fn is_enough<F: Frontier>(&self, frontier: &F, end: u64) -> bool {
         let wanted = self.among.len().min(self.count as usize);
-        wanted <= count_known(values, self.among, end)
+        wanted <= count_known(frontier, self.among, end)
     }
 
     fn answer(

@@ -10,9 +10,10 @@ ghost use Rattle.deltastep.specs.Reach.{AreAllWithin, IsReach, IsReachTo};
 
 use crate::questions::asked::{Question, answer_in};
 use crate::rows::distances::{Distances, RowError};
-use crate::rows::known::{Known, NodeDistance, all_known, known_among, told};
+use crate::rows::known::{NodeDistance, all_known, known_among, told};
 use crate::searches::workspace::Workspace;
-use relax::{Team, Tentative};
+use frontier::Frontier;
+use relax::{Known, Team, Tentative};
 use snapshot::Snapshot;
 use std::alloc::Global;
 
@@ -57,7 +58,7 @@ impl Question for Within {
 
     ghost answers = { λ asked net source told. IsReach net source asked.limit told };
 
-    fn is_enough(&self, _values: &Tentative, end: u64) -> bool {
+    fn is_enough<F: Frontier>(&self, _frontier: &F, end: u64) -> bool {
         self.limit <= end
     }
 

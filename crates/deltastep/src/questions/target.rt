@@ -56,7 +56,7 @@ impl<F: Frontier> Search<F> {
         requires positive { 1 ≤ delta }
         ensures { MatchOption (value_at (F.tentative self.now.frontier) node) (result ≡ false) (λ value. IsTrue result ↔ (value / delta ≤ bucket)) }
     {
-        match self.frontier.values().get(node) {
+        match self.frontier.value(node) {
             Some(value) => value / delta <= bucket,
             None => false,
         }

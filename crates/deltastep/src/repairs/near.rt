@@ -9,19 +9,19 @@ ghost use Rattle.snapshot.specs.Groups.{IsSnapshotOf};
 ghost use Rattle.snapshot.specs.declared.legs.Part.{Part};
 ghost use Rattle.relax.specs.Values.{value_at};
 ghost use Rattle.deltastep.specs.Search.{IsSearch, top_of, IsBetweenFromReached};
-ghost use Rattle.deltastep.specs.Repair.{AreChanged, AreQueued, AreTails, AreTailsLooked, IsKeptOf, IsNodeLooked};
+ghost use Rattle.deltastep.specs.Repair.{AreChanged, AreListed, AreQueued, AreTails, AreTailsLooked, IsKeptOf, IsNodeLooked};
 
 use crate::repairs::repairing::queue_owing;
 use crate::rows::distances::{Distances, RowError};
 use buckets::BucketQueue;
-use relax::Tentative;
+use relax::SharedTentative;
 use snapshot::{Leg, Part, Snapshot};
 
 /// Of the heads of these legs, queues those with a leg that leads to less than is known. Returns whether each of their values fits.
 #[inline(always)]
 fn queue_heads<Q: BucketQueue>(
     snapshot: &Snapshot,
-    tentative: &Tentative,
+    tentative: &SharedTentative,
     legs: &[Leg],
     buckets: &mut Q,
 ) -> Result<bool, RowError>
@@ -42,42 +42,25 @@ fn queue_heads<Q: BucketQueue>(
     Ok(true)
 }
 
-/// Whether the node has a distance in the row and no value.
-#[inline(always)]
-fn is_lost(row: &Distances, tentative: &Tentative, node: u32) -> bool
-    requires node { (1 ≤ node) × (node < length tentative.now) }
-    ensures { OnFalse result (value_at tentative.now node ≡ None → distance_at row.now node ≡ None) }
-{
-    if tentative.get(node).is_some() {
-        return false;
-    }
-    row.get(u64::from(node)).is_some()
-}
-
-/// If this node lost its value, queues those nodes with a leg to it that have a leg which leads to less than is known. For each leg, `back` has one from
-/// its head to its tail. Returns whether each of their values fits.
+/// Of the nodes with a leg to this node, queues those with a leg that leads to less than is known. For each leg, `back` has one from its head to its tail.
+/// Returns whether each of their values fits.
 #[inline(always)]
 fn queue_tails<Q: BucketQueue>(
     snapshot: &Snapshot,
     back: &Snapshot,
-    row: &Distances,
-    tentative: &Tentative,
+    tentative: &SharedTentative,
     node: u32,
     buckets: &mut Q,
 ) -> Result<bool, RowError>
-    requires node { (1 ≤ node) × (node ≤ snapshot.now.nodes) }
     requires nodes { back.now.nodes ≡ snapshot.now.nodes }
     requires search { IsSearch snapshot.now tentative.now map.empty 0 }
     requires small { top_of snapshot.now ≤ 2 ^ 56 }
     ensures queued { OnOk result (AreQueued tentative.now (Q.entries buckets.old) → AreQueued tentative.now (Q.entries buckets.new)) }
     ensures keeps { OnOk result ((u : ℕ) → IsSome (map.get (Q.entries buckets.old) u) → IsSome (map.get (Q.entries buckets.new) u)) }
-    ensures looked { IfOk result (λ fit. OnTrue fit (AreTailsLooked snapshot.now back.now row.now tentative.now (Q.entries buckets.new) node)) }
+    ensures looked { IfOk result (λ fit. OnTrue fit (AreTailsLooked snapshot.now back.now tentative.now (Q.entries buckets.new) node)) }
     ensures width { OnOk result (Q.width buckets.new ≡ Q.width buckets.old) }
     ensures span { OnOk result (Q.span buckets.new ≡ Q.span buckets.old) }
 {
-    if !is_lost(row, tentative, node) {
-        return Ok(true);
-    }
     if !queue_heads(snapshot, tentative, back.legs(node, Part::Light), buckets)? {
         return Ok(false);
     }
@@ -91,7 +74,7 @@ fn queue_tails<Q: BucketQueue>(
 #[inline(always)]
 fn queue_changed<Q: BucketQueue>(
     snapshot: &Snapshot,
-    tentative: &Tentative,
+    tentative: &SharedTentative,
     node: u32,
     buckets: &mut Q,
 ) -> Result<bool, RowError>
@@ -112,7 +95,7 @@ fn queue_changed<Q: BucketQueue>(
 /// Of these nodes, queues those with a leg that leads to less than is known. Returns whether each of their values fits.
 fn queue_all_changed<Q: BucketQueue>(
     snapshot: &Snapshot,
-    tentative: &Tentative,
+    tentative: &SharedTentative,
     changed: &[u32],
     buckets: &mut Q,
 ) -> Result<bool, RowError>
@@ -132,7 +115,7 @@ fn queue_all_changed<Q: BucketQueue>(
 }
 
 /// Queues, into an empty queue, each node with a leg that leads to less than is known: such a node has other legs than before, or a leg to a node that lost
-/// its value. Returns whether each of their values fits. It looks at each node once, and only at the legs of those nodes.
+/// its value. Returns whether each of their values fits. It looks at the legs of those nodes alone.
 pub(crate) fn queue_near<Q: BucketQueue>(
     snapshot: &Snapshot,
     before: &Snapshot,
@@ -140,7 +123,8 @@ pub(crate) fn queue_near<Q: BucketQueue>(
     source: u32,
     row: &Distances,
     changed: &[u32],
-    tentative: &Tentative,
+    lost: &[u32],
+    tentative: &SharedTentative,
     buckets: &mut Q,
 ) -> Result<bool, RowError>
     requires node { (1 ≤ source) × (source ≤ snapshot.now.nodes) }
@@ -150,18 +134,20 @@ pub(crate) fn queue_near<Q: BucketQueue>(
     requires changed { AreChanged before.now snapshot.now changed.now }
     requires tails { AreTails back.now snapshot.now }
     requires kept { IsKeptOf source row.now tentative.now }
+    requires listed { AreListed row.now tentative.now lost.now }
     requires search { IsSearch snapshot.now tentative.now map.empty 0 }
     requires empty { Q.entries buckets.old ≡ map.empty }
     ensures state { IfOk result (λ fit. OnTrue fit (IsBetweenFromReached snapshot.now tentative.now (Q.entries buckets.new))) }
     ensures width { OnOk result (Q.width buckets.new ≡ Q.width buckets.old) }
     ensures span { OnOk result (Q.span buckets.new ≡ Q.span buckets.old) }
 {
-    let nodes = before.nodes().min(snapshot.nodes());
+    let _older = before.nodes();
+    let _newer = snapshot.nodes();
     if !queue_all_changed(snapshot, tentative, changed, buckets)? {
         return Ok(false);
     }
-    for place in 0..nodes {
-        if !queue_tails(snapshot, back, row, tentative, place + 1, buckets)? {
+    for &node in lost {
+        if !queue_tails(snapshot, back, tentative, node, buckets)? {
             return Ok(false);
         }
     }

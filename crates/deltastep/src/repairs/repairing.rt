@@ -10,7 +10,7 @@ ghost use Rattle.snapshot.specs.declared.legs.Leg.{Leg};
 ghost use Rattle.snapshot.specs.declared.legs.Part.{Part};
 ghost use Rattle.relax.specs.Values.{value_at, value_or};
 ghost use Rattle.deltastep.specs.Search.{AreReached, IsBetweenBuckets, IsRelaxed, IsSearch, IsSuited, top_of};
-ghost use Rattle.deltastep.specs.Repair.{AreTails, AreQueued, AreChanged, HasLeg, IsLost, IsKeptOf, LeadToLost, AreThereOrLost, AreGoneLost, IsSpread, IsClosedBut, IsThinner, Thins};
+ghost use Rattle.deltastep.specs.Repair.{AreTails, AreListed, AreQueued, AreChanged, HasLeg, IsLost, IsKeptOf, LeadToLost, AreThereOrLost, AreGoneLost, IsSpread, IsClosedBut, IsThinner, Thins};
 
 use crate::repairs::near::queue_near;
 use crate::repairs::untouched::untouched_row;
@@ -19,8 +19,8 @@ use crate::searches::search::Search;
 use crate::searches::stepping::{ring_size, row_in};
 use crate::searches::workspace::Workspace;
 use buckets::{BucketQueue, OrderedBuckets};
-use frontier::{Queued, Remembered};
-use relax::{Team, Tentative};
+use frontier::{Mended, Remembered};
+use relax::{SharedTentative, Team};
 use snapshot::{Leg, Part, Snapshot};
 use std::alloc::Global;
 
@@ -59,10 +59,10 @@ pub(crate) fn is_sum(distance: Option<u64>, value: u64, length: u32) -> bool
     }
 }
 
-/// The values of a row that remain, and the nodes that lost theirs and whose legs are still to be examined.
+/// The values of a row that remain, and the nodes that lost theirs.
 #[derive(Drop)]
 struct Remains {
-    tentative: Tentative,
+    tentative: SharedTentative,
     lost: Vec<u32>,
 }
 
@@ -80,7 +80,7 @@ impl Remains {
         if self.lost.push(node).is_err() {
             return Err(RowError::OutOfMemory);
         }
-        self.tentative.clear(node);
+        self.tentative.clear(node)?;
         Ok(())
     }
 
@@ -240,8 +240,8 @@ impl Remains {
         Ok(())
     }
 
-    /// Removes all values that depend on tight legs of nodes that lost theirs, unless these are `most` or more. Returns whether none remains to be
-    /// examined.
+    /// Removes all values that depend on tight legs of nodes that lost theirs, in the order of the list, unless these are `most` or more. Returns whether the
+    /// legs of each are examined.
     fn spread(
         &mut self,
         after: &Snapshot,
@@ -251,13 +251,14 @@ impl Remains {
     ) -> Result<bool, RowError>
         requires places { length self.old.tentative ≡ after.now.nodes + 1 }
         requires closed { IsClosedBut after.now source row.now self.old.tentative self.old.lost.items }
-        ensures thinner { OnOk result (IsThinner source self.old.tentative self.new.tentative) }
+        ensures thins { OnOk result (Thins source self.old.tentative self.old.lost.items self.new.tentative self.new.lost.items) }
         ensures closed { IfOk result (λ done. OnTrue done (IsClosedBut after.now source row.now self.new.tentative [])) }
     {
-        for _ in 0..most {
-            let Some(node) = self.lost.pop() else {
+        for place in 0..most as usize {
+            if place >= self.lost.len() {
                 return Ok(true);
-            };
+            }
+            let node = self.lost[place];
             self.lose_behind(after, source, row, node)?;
         }
         Ok(false)
@@ -276,7 +277,7 @@ fn is_less(through: u64, known: Option<u64>) -> bool
 
 /// Whether some of these legs, of a node with this value, leads to less than is known.
 #[inline(always)]
-fn leads_to_less(tentative: &Tentative, value: u64, legs: &[Leg]) -> bool
+fn leads_to_less(tentative: &SharedTentative, value: u64, legs: &[Leg]) -> bool
     requires heads { All (λ leg. (1 ≤ leg.head) × (leg.head < length tentative.now)) legs.now }
     requires small { value < 2 ^ 56 }
     ensures { OnFalse result ((top : ℕ) → All (λ leg. value_or top tentative.now leg.head ≤ value + leg.length) legs.now) }
@@ -291,7 +292,7 @@ fn leads_to_less(tentative: &Tentative, value: u64, legs: &[Leg]) -> bool
 
 /// Whether some leg of the node, which has this value, leads to less than is known.
 #[inline(always)]
-fn owes(snapshot: &Snapshot, tentative: &Tentative, node: u32, value: u64) -> bool
+fn owes(snapshot: &Snapshot, tentative: &SharedTentative, node: u32, value: u64) -> bool
     requires places { length tentative.now ≡ snapshot.now.nodes + 1 }
     requires has { value_at tentative.now node ≡ Some value }
     requires small { value < 2 ^ 56 }
@@ -310,7 +311,7 @@ fn owes(snapshot: &Snapshot, tentative: &Tentative, node: u32, value: u64) -> bo
 #[inline(always)]
 pub(crate) fn queue_owing<Q: BucketQueue>(
     snapshot: &Snapshot,
-    tentative: &Tentative,
+    tentative: &SharedTentative,
     node: u32,
     buckets: &mut Q,
 ) -> Result<bool, RowError>
@@ -336,7 +337,8 @@ pub(crate) fn queue_owing<Q: BucketQueue>(
     Ok(true)
 }
 
-/// The values of a row before a change that are certainly still lengths of walks, or nothing if too many are not.
+/// The values of a row before a change that are certainly still lengths of walks, and the nodes that lost theirs; or nothing if too many did, or if the row is
+/// not kept in words of 4 bytes.
 fn remaining(
     alloc: Global,
     before: &Snapshot,
@@ -344,55 +346,74 @@ fn remaining(
     source: u32,
     row: &Distances,
     changed: &[u32],
-) -> Result<Option<Tentative>, RowError>
+) -> Result<Option<Remains>, RowError>
     requires node { (1 ≤ source) × (source ≤ after.now.nodes) }
     requires nodes { before.now.nodes ≡ after.now.nodes }
     requires row { (net : Net) × IsSnapshotOf net before.now × RowOf net source row.now }
     requires changed { AreChanged before.now after.now changed.now }
-    ensures search { IfOk result (λ left. IfSome left (λ tentative. IsSearch after.now tentative map.empty 0)) }
-    ensures reached { IfOk result (λ left. IfSome left (AreReached after.now source)) }
-    ensures kept { IfOk result (λ left. IfSome left (IsKeptOf source row.now)) }
+    ensures search { IfOk result (λ left. IfSome left (λ remains. IsSearch after.now remains.tentative map.empty 0)) }
+    ensures reached { IfOk result (λ left. IfSome left (λ remains. AreReached after.now source remains.tentative)) }
+    ensures kept { IfOk result (λ left. IfSome left (λ remains. IsKeptOf source row.now remains.tentative)) }
+    ensures listed { IfOk result (λ left. IfSome left (λ remains. AreListed row.now remains.tentative remains.lost.items)) }
 {
+    let Some(tentative) = row.to_tentative()? else {
+        return Ok(None);
+    };
     let mut remains = Remains {
-        tentative: row.to_tentative()?,
+        tentative,
         lost: Vec::new(alloc),
     };
     remains.lose_changed(before, after, source, row, changed)?;
     if !remains.spread(after, source, row, before.nodes() / 8)? {
         return Ok(None);
     }
-    let Remains { tentative, lost: _ } = remains;
-    Ok(Some(tentative))
+    Ok(Some(remains))
 }
 
-/// The row of `source`, by a search that continues from these values and this queue, with an empty memory of nodes; and the queue as the search leaves it.
+/// The row of `source`, by a search that continues from these values and this queue, with an empty memory of nodes; and the queue as the search leaves it. It
+/// is nothing if a length does not fit into 4 bytes.
 #[inline(always)]
 fn goes_on<Q: BucketQueue + Drop, T: Team>(
     alloc: Global,
     snapshot: &Snapshot,
     source: u32,
-    tentative: Tentative,
+    tentative: SharedTentative,
     buckets: Q,
     team: &T,
     remembered: &mut Remembered,
-) -> Result<(Distances, Q), RowError>
+) -> Result<Option<(Distances, Q)>, RowError>
     requires node { (1 ≤ source) × (source ≤ snapshot.now.nodes) }
     requires state { IsBetweenBuckets snapshot.now source tentative (Q.entries buckets) }
     requires suited { IsSuited snapshot.now (Q.width buckets) (Q.span buckets) }
     requires none { remembered.old ≡ record { limit = snapshot.now.nodes + 1; nodes = [] } }
     requires grouped { IsGrouped snapshot.now }
-    ensures row { IfOk result (λ made. (net : Net) → IsSnapshotOf net snapshot.now → RowOf net source made.0) }
+    ensures row { IfOk result (λ found. IfSome found (λ made. (net : Net) → IsSnapshotOf net snapshot.now → RowOf net source made.0)) }
 {
     let mut search = Search {
-        frontier: Queued { tentative, buckets },
+        frontier: Mended {
+            tentative,
+            buckets,
+            is_beyond: false,
+        },
     };
-    search.settle_all(alloc, snapshot, team, remembered)?;
+    if let Err(error) = search.settle_all(alloc, snapshot, team, remembered) {
+        if search.frontier.is_beyond {
+            return Ok(None);
+        }
+        return Err(error);
+    }
     let Search { frontier } = search;
-    let Queued { tentative, buckets } = frontier;
-    Ok((Distances::from_words(tentative.into_words())?, buckets))
+    let Mended {
+        tentative,
+        buckets,
+        is_beyond: _,
+    } = frontier;
+    let row = Distances::from_tentative(alloc, tentative)?;
+    Ok(Some((row, buckets)))
 }
 
-/// The row of `source`, by a search that continues from what remains of its row before a change, found by way of the legs back.
+/// The row of `source`, by a search that continues from what remains of its row before a change, found by way of the legs back. It is nothing if too little
+/// remains, if the row before was not kept in words of 4 bytes, or if a length does not fit into 4 bytes.
 fn repaired<T: Team>(
     alloc: Global,
     snapshot: &Snapshot,
@@ -403,25 +424,26 @@ fn repaired<T: Team>(
     back: &Snapshot,
     team: &T,
     workspace: &mut Workspace,
-) -> Result<Distances, RowError>
+) -> Result<Option<Distances>, RowError>
     requires node { (1 ≤ source) × (source ≤ snapshot.now.nodes) }
     requires nodes { before.now.nodes ≡ snapshot.now.nodes }
     requires old { (net : Net) × IsSnapshotOf net before.now × RowOf net source old.now }
     requires changed { AreChanged before.now snapshot.now changed.now }
     requires back_nodes { back.now.nodes ≡ snapshot.now.nodes }
     requires tails { AreTails back.now snapshot.now }
-    ensures row { IfOk result (λ row. (net : Net) → IsSnapshotOf net snapshot.now → RowOf net source row) }
+    ensures row { IfOk result (λ made. IfSome made (λ row. (net : Net) → IsSnapshotOf net snapshot.now → RowOf net source row)) }
 {
-    let Some(tentative) = remaining(alloc, before, snapshot, source, old, changed)? else {
-        return row_in(alloc, snapshot, source, team, workspace);
+    let Some(remains) = remaining(alloc, before, snapshot, source, old, changed)? else {
+        return Ok(None);
     };
+    let Remains { tentative, lost } = remains;
     let mut remembered = workspace.take_remembered(alloc, snapshot.nodes() as usize + 1)?;
     if ring_size(snapshot).is_some() {
         let mut queue = workspace.take_queue(alloc, snapshot.delta(), MOST_LISTS)?;
         if queue_near(
-            snapshot, before, back, source, old, changed, &tentative, &mut queue,
+            snapshot, before, back, source, old, changed, &lost, &tentative, &mut queue,
         )? {
-            let (row, queue) = goes_on(
+            let Some((row, queue)) = goes_on(
                 alloc,
                 snapshot,
                 source,
@@ -429,35 +451,42 @@ fn repaired<T: Team>(
                 queue,
                 team,
                 &mut remembered,
-            )?;
+            )?
+            else {
+                return Ok(None);
+            };
             workspace.keep_queue(queue);
             workspace.keep_remembered(remembered);
-            return Ok(row);
+            return Ok(Some(row));
         }
     }
     let mut buckets = OrderedBuckets::new(alloc, snapshot.delta());
-    if queue_near(
+    if !queue_near(
         snapshot,
         before,
         back,
         source,
         old,
         changed,
+        &lost,
         &tentative,
         &mut buckets,
     )? {
-        let (row, _buckets) = goes_on(
-            alloc,
-            snapshot,
-            source,
-            tentative,
-            buckets,
-            team,
-            &mut remembered,
-        )?;
-        return Ok(row);
+        return Ok(None);
     }
-    row_in(alloc, snapshot, source, team, workspace)
+    let Some((row, _buckets)) = goes_on(
+        alloc,
+        snapshot,
+        source,
+        tentative,
+        buckets,
+        team,
+        &mut remembered,
+    )?
+    else {
+        return Ok(None);
+    };
+    Ok(Some(row))
 }
 
 /// The row of `source` in a network, made from its row in the network before a change. It is the row that `row_in` makes, whatever the workspace holds, and
@@ -466,8 +495,9 @@ fn repaired<T: Team>(
 /// `before` and `snapshot` are the snapshots of the two networks, which have the same nodes. `changed` has each node that does not have the same legs in
 /// both, as `changed_nodes` gives them. For each leg of the new snapshot, `back` has one from its head to its tail. Nodes whose shortest walks may use a leg
 /// that is gone lose their distance, and so do the nodes that depend on these. Then the search continues from the nodes with a leg that leads to less than
-/// is known. Beside the copy of the row and one look at each node, it takes time only for what was lost and changed, with the legs around it. If an eighth
-/// of the nodes or more lose their distance, the row is made anew. Its only error is lack of memory.
+/// is known. It takes time only for what was lost and changed, with the legs around it, and a counter for each chunk of the row; and memory for the chunks in
+/// which a word is written: the others are those of the row before. If an eighth of the nodes or more lose their distance, or a length does not fit into 4
+/// bytes, or the row before was not kept in words of 4 bytes, the row is made anew. Its only error is lack of memory.
 pub fn row_after<T: Team>(
     alloc: Global,
     snapshot: &Snapshot,
@@ -490,7 +520,10 @@ pub fn row_after<T: Team>(
     if let Some(row) = untouched_row(before, snapshot, source, old, changed) {
         return Ok(row);
     }
-    repaired(
+    if let Some(row) = repaired(
         alloc, snapshot, source, before, old, changed, back, team, workspace,
-    )
+    )? {
+        return Ok(row);
+    }
+    row_in(alloc, snapshot, source, team, workspace)
 }

@@ -1,9 +1,10 @@
 ghost use Rattle.std.specs.Prelude.{◌≡◌};
 
 use crate::rows::words::Words;
-use relax::Tentative;
+use chunked::ChunkedArray;
+use relax::SharedTentative;
 use roadnet::OutOfMemory;
-use std::alloc::AllocError;
+use std::alloc::{AllocError, Global};
 use std::marker::Model;
 use std::sync::Arc;
 use thiserror::Error;
@@ -13,7 +14,7 @@ pub const NO_WALK: u64 = u64::MAX;
 
 /// The row of one node: the least length of a walk to each node, or that no walk leads there. It takes 4 bytes a node if each least length is below 2^32 -
 /// 1, otherwise 8. All shares of a row use the same memory.
-#[derive(Debug, Drop)]
+#[derive(Drop)]
 pub struct Distances {
     words: Arc<Words>,
 }
@@ -30,7 +31,7 @@ impl Model for Distances {
 impl Distances {
     ghost use Rattle.std.specs.Prelude.{◌≡◌, ◌∷◌, None, IfOk, IfSome, map};
     ghost use Rattle.roadnet.specs.Walks.{distance_at};
-    ghost use Rattle.deltastep.specs.Words.{distance_of_short, distance_of_word};
+    ghost use Rattle.deltastep.specs.Words.{distance_of_short, distance_of_word, distances_of};
 
     /// The least length of a walk to this node; nothing if no walk leads there, or if the network has no such node. It takes no memory.
     ///
@@ -42,17 +43,31 @@ impl Distances {
     }
 
     /// The words of a row that is kept in words of 4 bytes, from node 1 on. 2^32 - 1 means that no walk leads there. It takes no memory.
-    pub fn short_words(&self) -> Option<&[u32]>
+    pub fn short_words(&self) -> Option<&ChunkedArray<u32>>
         ensures { IfSome result (λ words. self.now ≡ map distance_of_short words.now) }
     {
         self.words.short()
     }
 
-    /// The same distances as a search's values.
-    pub(crate) fn to_tentative(&self) -> Result<Tentative, RowError>
-        ensures { IfOk result (λ tentative. tentative ≡ None ∷ self.now) }
+    /// The same distances as the values of a repair, which share the words of this row, if it is kept in words of 4 bytes. It takes a counter for each chunk
+    /// of words.
+    pub(crate) fn to_tentative(&self) -> Result<Option<SharedTentative>, RowError>
+        ensures { IfOk result (λ shared. IfSome shared (λ tentative. tentative ≡ None ∷ self.now)) }
     {
-        Ok(Tentative::from_words(self.words.to_long()?))
+        let Some(words) = self.words.short() else {
+            return Ok(None);
+        };
+        Ok(Some(SharedTentative::from_words(words.share()?)))
+    }
+
+    /// The distances of a repair's values. It takes some 50 bytes, and that they cannot be had is the only error.
+    pub(crate) fn from_tentative(
+        alloc: Global,
+        tentative: SharedTentative,
+    ) -> Result<Distances, RowError>
+        ensures { IfOk result (λ row. tentative ≡ None ∷ row) }
+    {
+        Distances::of(alloc, Words::Short(tentative.into_words()))
     }
 
     /// A share of this row: the same words, which are freed with the last share. The only error is that no share can be made.
@@ -68,8 +83,14 @@ impl Distances {
     pub(crate) fn from_words(words: Vec<u64>) -> Result<Distances, RowError>
         ensures { IfOk result (λ row. row ≡ map distance_of_word words.items) }
     {
-        let alloc = *words.allocator();
-        let Ok(words) = Arc::new(alloc, Words::new(words)) else {
+        Distances::of(*words.allocator(), Words::new(words))
+    }
+
+    /// The row that is kept so. The only error is lack of memory for what all shares of a row have in common.
+    fn of(alloc: Global, words: Words) -> Result<Distances, RowError>
+        ensures { IfOk result (λ row. row ≡ distances_of words) }
+    {
+        let Ok(words) = Arc::new(alloc, words) else {
             return Err(RowError::OutOfMemory);
         };
         Ok(Distances { words })

@@ -3,10 +3,10 @@
 ghost use Rattle.std.specs.Prelude.{◌≡◌, ◌+◌, ◌≤◌, ◌<◌, ℕ, List, [], ◌∷◌, ◌++◌, Option, None, Some, if◌then◌else◌, length, map, IfOk, OnOk};
 ghost use Rattle.std.specs.List.{filter};
 ghost use Rattle.relax.specs.Values.{value_at};
-ghost use Rattle.deltastep.specs.Reach.{AreAllWithin, AreNodesOfRow, has_within, node_told_of};
+ghost use Rattle.deltastep.specs.Reach.{AreAllWithin, AreNodesOfRow, has_within, is_within, node_told_of};
 
 use crate::rows::distances::{Distances, RowError};
-use relax::Tentative;
+use relax::Known;
 use std::alloc::Global;
 
 /// A node, and the least length of a walk to it or from it. The order is by distance, and then by node.
@@ -18,25 +18,6 @@ pub struct NodeDistance {
     pub node: u32,
 }
 
-/// What is known of the distances of nodes.
-pub trait Known {
-    /// The values, with an entry for each node at the place of its number.
-    ghost values: { Self → List (Option ℕ) };
-
-    /// The value of a node, if it has one.
-    fn value(&self, node: u32) -> Option<u64>
-        requires node { (1 ≤ node) × (node < length (values self.now)) }
-        ensures { result ≡ value_at (values self.now) node };
-}
-
-impl Known for Tentative {
-    ghost values = { λ values. values };
-
-    fn value(&self, node: u32) -> Option<u64> {
-        self.get(node)
-    }
-}
-
 impl Known for Distances {
     ghost values = { λ row. None ∷ row };
 
@@ -45,13 +26,12 @@ impl Known for Distances {
     }
 }
 
-/// Whether a node has a value, and that value is at most the end, if there is one.
+/// Whether there is a value, and it is at most the end, if there is one.
 #[inline(always)]
-pub(crate) fn is_known<V: Known>(values: &V, node: u32, end: Option<u64>) -> bool
-    requires node { (1 ≤ node) × (node < length (V.values values.now)) }
-    ensures { result ≡ has_within (V.values values.now) end node }
+pub(crate) fn is_known(value: Option<u64>, end: Option<u64>) -> bool
+    ensures { result ≡ is_within end value }
 {
-    match (values.value(node), end) {
+    match (value, end) {
         (None, _) => false,
         (Some(_), None) => true,
         (Some(distance), Some(end)) => distance <= end,
@@ -69,7 +49,7 @@ fn add_known<V: Known>(
     requires node { (1 ≤ node) × (node < length (V.values values.now)) }
     ensures { OnOk result (known.new.items ≡ known.old.items ++ (if has_within (V.values values.now) end node then node ∷ [] else [])) }
 {
-    if !is_known(values, node, end) {
+    if !is_known(values.value(node), end) {
         return Ok(());
     }
     if known.push(node).is_err() {

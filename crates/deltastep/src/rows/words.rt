@@ -4,16 +4,17 @@ ghost use Rattle.std.specs.Prelude.{◌≡◌, ◌<◌, map, IfOk, IfSome, IsSom
 ghost use Rattle.roadnet.specs.Walks.{distance_at};
 ghost use Rattle.deltastep.specs.Words.{distance_of_short, distance_of_word, distances_of, no_short_walk};
 
-use crate::rows::distances::{NO_WALK, RowError};
+use crate::rows::distances::NO_WALK;
+use chunked::ChunkedArray;
 use std::alloc::Global;
 
 /// The word of 4 bytes that means "no walk leads there".
 const NO_SHORT_WALK: u32 = u32::MAX;
 
 /// The words of a row, one for each node: of 4 bytes if each least length is below 2^32 - 1, otherwise of 8.
-#[derive(Debug, Drop)]
+#[derive(Drop)]
 pub(crate) enum Words {
-    Short(Vec<u32>),
+    Short(ChunkedArray<u32>),
     Long(Vec<u64>),
 }
 
@@ -22,7 +23,7 @@ impl Words {
     pub(crate) fn new(words: Vec<u64>) -> Words
         ensures { distances_of result ≡ map distance_of_word words.items }
     {
-        match shortened(*words.allocator(), &words) {
+        match in_chunks(*words.allocator(), &words) {
             Some(short) => Words::Short(short),
             None => Words::Long(words),
         }
@@ -39,7 +40,7 @@ impl Words {
     }
 
     /// The words of 4 bytes, if the row is kept in such words.
-    pub(crate) fn short(&self) -> Option<&[u32]>
+    pub(crate) fn short(&self) -> Option<&ChunkedArray<u32>>
         ensures { IfSome result (λ words. distances_of self.now ≡ map distance_of_short words.now) }
     {
         match self {
@@ -47,26 +48,16 @@ impl Words {
             Words::Long(_words) => None,
         }
     }
-
-    /// The same distances in words of 8 bytes. The only error is lack of memory.
-    pub(crate) fn to_long(&self) -> Result<Vec<u64>, RowError>
-        ensures { IfOk result (λ long. map distance_of_word long.items ≡ distances_of self.now) }
-    {
-        match self {
-            Words::Short(words) => lengthened(*words.allocator(), words),
-            Words::Long(words) => Ok(words.clone()?),
-        }
-    }
 }
 
 /// What words of 4 bytes say of a node.
-fn short_at(words: &[u32], node: u64) -> Option<u64>
+fn short_at(words: &ChunkedArray<u32>, node: u64) -> Option<u64>
     ensures { result ≡ distance_at (map distance_of_short words.now) node }
 {
     if node == 0 || node > words.len() as u64 {
         return None;
     }
-    let word = words[(node - 1) as usize];
+    let word = *words.get((node - 1) as usize);
     if word == NO_SHORT_WALK {
         return None;
     }
@@ -98,16 +89,6 @@ fn short_of(word: u64) -> Option<u32>
     Some(word as u32)
 }
 
-/// The word of 8 bytes that says the same as one of 4.
-fn long_of(word: u32) -> u64
-    ensures { distance_of_word result ≡ distance_of_short word }
-{
-    if word == NO_SHORT_WALK {
-        return NO_WALK;
-    }
-    u64::from(word)
-}
-
 /// The same distances in words of 4 bytes, if they fit and there is memory.
 fn shortened(alloc: Global, words: &[u64]) -> Option<Vec<u32>>
     ensures { IfSome result (λ short. map distance_of_short short.items ≡ map distance_of_word words.now) }
@@ -123,15 +104,13 @@ fn shortened(alloc: Global, words: &[u64]) -> Option<Vec<u32>>
     Some(short)
 }
 
-/// The same distances in words of 8 bytes.
-fn lengthened(alloc: Global, words: &[u32]) -> Result<Vec<u64>, RowError>
-    ensures { IfOk result (λ long. map distance_of_word long.items ≡ map distance_of_short words.now) }
+/// The same distances in chunks of words of 4 bytes, if they fit and there is memory.
+fn in_chunks(alloc: Global, words: &[u64]) -> Option<ChunkedArray<u32>>
+    ensures { IfSome result (λ short. map distance_of_short short ≡ map distance_of_word words.now) }
 {
-    let mut long = Vec::with_capacity(alloc, words.len())?;
-    for word in words {
-        if long.push(long_of(*word)).is_err() {
-            return Err(RowError::OutOfMemory);
-        }
+    let short = shortened(alloc, words)?;
+    match ChunkedArray::from_slice(alloc, &short) {
+        Ok(chunks) => Some(chunks),
+        Err(_) => None,
     }
-    Ok(long)
 }

@@ -341,11 +341,11 @@ impl<F: Frontier> Search<F> {
         ensures span { OnOk result (F.span self.new.frontier ≡ F.span self.old.frontier) }
     {
         if let [node] = nodes {
-            let value = self.frontier.values().get(*node).unwrap_or(0);
+            let value = self.frontier.value(*node).unwrap_or(0);
             return self.meet_legs(top, bucket, value, snapshot.legs(*node, part));
         }
-        let mut requests = team.requests(alloc, snapshot, nodes, self.frontier.values(), part)?;
-        sift(alloc, &mut requests, self.frontier.values(), top)?;
+        let mut requests = self.frontier.requests(alloc, snapshot, team, nodes, part)?;
+        sift(alloc, &mut requests, &self.frontier, top)?;
         self.meet(top, bucket, &requests)
     }
 

@@ -5,24 +5,24 @@ ghost use Rattle.relax.specs.Values.{value_or};
 ghost use Rattle.deltastep.specs.Sifting.{sifted};
 
 use crate::rows::distances::RowError;
-use relax::Tentative;
+use frontier::Frontier;
 use std::alloc::{AllocError, Global};
 
 /// The known value of the node of each request, or `top` if none is known, in a loop that does nothing else.
 #[inline(always)]
-fn look_up(
+fn look_up<F: Frontier>(
     alloc: Global,
     requests: &[(u32, u64)],
-    tentative: &Tentative,
+    frontier: &F,
     top: u64,
 ) -> Result<Vec<u64>, AllocError>
-    requires nodes { All (λ r. (1 ≤ r.0) × (r.0 < length tentative.now)) requests.now }
-    ensures { IfOk result (λ known. known.items ≡ map (λ r. value_or top tentative.now r.0) requests.now) }
+    requires nodes { All (λ r. (1 ≤ r.0) × (r.0 < length (F.tentative frontier.now))) requests.now }
+    ensures { IfOk result (λ known. known.items ≡ map (λ r. value_or top (F.tentative frontier.now) r.0) requests.now) }
 {
     let mut known = Vec::with_capacity(alloc, requests.len())?;
     for request in requests {
         let (node, _value) = *request;
-        known.push_reserved(tentative.get(node).unwrap_or(top));
+        known.push_reserved(frontier.value(node).unwrap_or(top));
     }
     Ok(known)
 }
@@ -45,16 +45,16 @@ fn compact(requests: &mut Vec<(u32, u64)>, known: &[u64]) -> usize
 
 /// Keeps those requests that ask for less than is known. The only error is lack of memory, for 8 bytes a request.
 #[inline(always)]
-pub(crate) fn sift(
+pub(crate) fn sift<F: Frontier>(
     alloc: Global,
     requests: &mut Vec<(u32, u64)>,
-    tentative: &Tentative,
+    frontier: &F,
     top: u64,
 ) -> Result<(), RowError>
-    requires nodes { All (λ r. (1 ≤ r.0) × (r.0 < length tentative.now)) requests.old.items }
-    ensures sifted { OnOk result (requests.new.items ≡ sifted top tentative.now requests.old.items) }
+    requires nodes { All (λ r. (1 ≤ r.0) × (r.0 < length (F.tentative frontier.now))) requests.old.items }
+    ensures sifted { OnOk result (requests.new.items ≡ sifted top (F.tentative frontier.now) requests.old.items) }
 {
-    let known = look_up(alloc, requests, tentative, top)?;
+    let known = look_up(alloc, requests, frontier, top)?;
     let kept = compact(requests, &known);
     requests.truncate(kept);
     Ok(())

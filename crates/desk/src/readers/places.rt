@@ -11,8 +11,9 @@ ghost use Rattle.desk.specs.Readings.{IsViewAfter};
 use history::Front;
 use office::Naming;
 use published::Shown;
-use roadnet::{Network, Refusal};
+use roadnet::Refusal;
 use rows::{Asker, Reply, View};
+use shared_network::SharedNetwork;
 use snapshot::Snapshot;
 use std::marker::{Model, PhantomData};
 use std::sync::Arc;
@@ -129,7 +130,7 @@ impl<N: Naming> Glance<N> {
     }
 
     /// The network of the view. It takes no memory.
-    pub fn network(&self) -> &Network
+    pub fn network(&self) -> &SharedNetwork
         ensures { result.now ≡ self.now.view.network }
     {
         self.view.network()

@@ -8,8 +8,9 @@ ghost use Rattle.deltastep.specs.Repair.{AreChanged};
 ghost use Rattle.desk.specs.Repairs.{AreGroupedBy, IsOlder};
 
 use deltastep::changed_nodes;
-use roadnet::{Network, OutOfMemory};
+use roadnet::OutOfMemory;
 use rows::View;
+use shared_network::SharedNetwork;
 use snapshot::{ArcIndex, Snapshot, default_delta, tails_of};
 use std::alloc::Global;
 use std::sync::Arc;
@@ -32,7 +33,7 @@ pub(crate) struct Grouped {
 fn index_after(
     alloc: Global,
     old: Older<'_>,
-    network: &Network,
+    network: &SharedNetwork,
 ) -> Result<Arc<ArcIndex>, OutOfMemory>
     requires { IsOlder network.now old }
     ensures { IfOk result (λ index. AreArcsByBlock network.now.nodes network.now.arcs index.value) }
@@ -56,7 +57,7 @@ pub(crate) fn groups_after(
     alloc: Global,
     delta: Option<u32>,
     old: Option<Older<'_>>,
-    network: &Network,
+    network: &SharedNetwork,
 ) -> Result<Grouped, OutOfMemory>
     requires delta { ForSome delta IsWidth }
     requires old { ForSome old (IsOlder network.now) }
@@ -95,7 +96,7 @@ impl Older<'_> {
     pub(crate) fn changed_tails(
         &self,
         alloc: Global,
-        network: &Network,
+        network: &SharedNetwork,
         before: &Snapshot,
         snapshot: &Snapshot,
     ) -> Option<Vec<u32>>

@@ -15,8 +15,9 @@ use crate::threads::repairs::Before;
 use crate::threads::row_workers::{RowJob, landmark_rows};
 use disk::Disk;
 use office::Work;
-use roadnet::{Network, OutOfMemory};
+use roadnet::OutOfMemory;
 use rows::{Row, View, numbered_back};
+use shared_network::SharedNetwork;
 use snapshot::{ArcIndex, Snapshot};
 use std::alloc::Global;
 use std::sync::Arc;
@@ -39,7 +40,11 @@ pub(crate) struct Plan {
 
 /// All arcs of a network the other way round, with their numbers: those of an older view, if no arc was laid since; otherwise they are grouped anew. Nothing
 /// if no older view is given, or if there is no memory.
-fn back_after(alloc: Global, old: Option<Older<'_>>, network: &Network) -> Option<Arc<Snapshot>>
+fn back_after(
+    alloc: Global,
+    old: Option<Older<'_>>,
+    network: &SharedNetwork,
+) -> Option<Arc<Snapshot>>
     requires { ForSome old (IsOlder network.now) }
     ensures { ForSome result (λ back. LeadsBack network.now back.value) }
 {
@@ -58,7 +63,7 @@ fn back_after(alloc: Global, old: Option<Older<'_>>, network: &Network) -> Optio
 /// The legs of a network's snapshot the other way round, lent.
 fn lent<'a>(
     back: &'a Option<Arc<Snapshot>>,
-    network: &Network,
+    network: &SharedNetwork,
     snapshot: &Snapshot,
 ) -> Option<&'a Snapshot>
     requires back { ForSome back.now (λ back. LeadsBack network.now back.value) }
@@ -86,7 +91,7 @@ fn with_index(view: View, index: Option<Arc<ArcIndex>>) -> View
 /// The view of these parts, with the index of its arcs and the reversed arcs, if they are given.
 fn assembled(
     version: u64,
-    network: Network,
+    network: SharedNetwork,
     grouped: Grouped,
     rows: Vec<Row>,
     back: Option<Arc<Snapshot>>,
@@ -114,7 +119,7 @@ impl Plan {
         gate: &G,
         last: &AtomicU64,
         version: u64,
-        network: Network,
+        network: SharedNetwork,
         old: Option<Older<'_>>,
     ) -> Result<Arc<View>, Unbuilt>
         requires { ForSome old (IsOlder network) }
@@ -160,7 +165,7 @@ impl Plan {
         ensures network { IfOk result (λ view. view.value.network ≡ work.now.network) }
         ensures width { IfOk result (λ view. view.value.delta ≡ unwrap_or self.now.delta (default_width work.now.network)) }
     {
-        let network = work.network()?;
+        let network = work.network(self.alloc)?;
         let changed = work.changed(self.alloc, &network)?;
         let shown = Older {
             view: work.shown(),
@@ -180,7 +185,7 @@ impl Plan {
         ensures width { IfOk result (λ view. view.value.delta ≡ unwrap_or self.now.delta (default_width store.now.network)) }
     {
         let last = AtomicU64::new(UNKNOWN);
-        let network = store.network().copy()?;
+        let network = SharedNetwork::of(self.alloc, store.network())?;
         match self.view_of(rt, &NoGate, &last, store.version(), network, None) {
             Ok(view) => Ok(view),
             Err(_) => Err(OutOfMemory),

@@ -5,8 +5,8 @@ ghost use Rattle.snapshot.specs.Groups.{IsSnapshotOf};
 ghost use Rattle.desk.specs.Repairs.{IsBefore, IsOlder, LeadBackTo};
 
 use crate::threads::older::Older;
-use roadnet::Network;
 use rows::View;
+use shared_network::SharedNetwork;
 use snapshot::Snapshot;
 use std::alloc::Global;
 
@@ -28,7 +28,7 @@ impl Before<'_> {
     pub(crate) fn of<'a>(
         alloc: Global,
         old: Option<Older<'a>>,
-        network: &Network,
+        network: &SharedNetwork,
         snapshot: &Snapshot,
         back: Option<&'a Snapshot>,
     ) -> Option<Before<'a>>

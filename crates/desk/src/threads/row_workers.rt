@@ -15,8 +15,8 @@ use crate::threads::leaves::Leave;
 use crate::threads::repairs::Before;
 use deltastep::{Distances, RowError, Workspace, row_after, row_in};
 use relax::{CHUNK, Crew, Team};
-use roadnet::Network;
 use rows::Row;
+use shared_network::SharedNetwork;
 use snapshot::Snapshot;
 use std::alloc::Global;
 use std::collections::VecDeque;
@@ -30,7 +30,7 @@ pub(crate) struct RowJob<'a, G> {
     pub(crate) gate: &'a G,
     pub(crate) last: &'a AtomicU64,
     pub(crate) version: u64,
-    pub(crate) network: &'a Network,
+    pub(crate) network: &'a SharedNetwork,
     pub(crate) snapshot: &'a Snapshot,
     /// An older view, from whose rows those of its landmarks are made.
     pub(crate) before: Option<&'a Before<'a>>,

@@ -14,6 +14,7 @@ use disk::{Disk, Stoppable};
 use relax::{CHUNK, Crew};
 use roadnet::{Group, Network, OutOfMemory};
 use rows::{Sight, View};
+use shared_network::SharedNetwork;
 use std::alloc::Global;
 use std::sync::Arc;
 use std::thread::Threads;
@@ -35,7 +36,7 @@ pub fn view_of<R: Threads>(
     let view = View::build(
         alloc,
         version,
-        network.copy()?,
+        SharedNetwork::of(alloc, network)?,
         delta,
         &Crew::new(rt, CHUNK),
     )?;

@@ -14,6 +14,7 @@ use crate::networks::same::is_same;
 use disk::Disk;
 use roadnet::{Group, Network, OutOfMemory, Refusal};
 use rows::View;
+use shared_network::SharedNetwork;
 use std::snapshot::Snapshot;
 use std::sync::Arc;
 
@@ -128,7 +129,7 @@ impl<D: Disk> Keeper<D> {
 
     /// Whether this is the network of the task of this version, which is out. It is compared with the network with which the task was handed out; otherwise
     /// the groups from the shown version to the task's decide.
-    fn is_of_task(&self, version: u64, network: &Network) -> bool
+    fn is_of_task(&self, version: u64, network: &SharedNetwork) -> bool
         requires { self.now.machine.task ≡ Some version }
         ensures { Decides result (network_at self.now.machine version ≡ Some network.now) }
     {

@@ -6,7 +6,8 @@ ghost use Rattle.roadnet.specs.Step.{after, changed, first_refusal, new_arc, ref
 ghost use Rattle.roadnet.specs.Batches.{changed_by, changed_by_all, first_refusal_of_all};
 ghost use Rattle.keeper.specs.Leading.{SeesAt};
 
-use roadnet::{Command, Group, Network, RoadArc};
+use roadnet::{Command, Group, RoadArc};
+use shared_network::SharedNetwork;
 
 /// What a network shows at one number: its arc, if there is one, whether its node is a landmark, and how many arcs there are.
 #[derive(Clone, Copy, Debug, PartialEq, Eq)]
@@ -128,7 +129,7 @@ fn seen_after_all(groups: &[Group], k: u64, seen: SeenPlace) -> SeenPlace
 }
 
 /// What number `k` of a network shows.
-fn see(network: &Network, k: u64) -> SeenPlace
+fn see(network: &SharedNetwork, k: u64) -> SeenPlace
     ensures { SeesAt network.now k result }
 {
     SeenPlace {
@@ -146,7 +147,7 @@ fn is_same(one: SeenPlace, other: SeenPlace) -> bool
 }
 
 /// Whether groups that a network admits lead to another network. It takes no memory, and looks at each command once for each arc and node.
-pub(crate) fn lead_to(network: &Network, groups: &[Group], other: &Network) -> bool
+pub(crate) fn lead_to(network: &SharedNetwork, groups: &[Group], other: &SharedNetwork) -> bool
     requires { first_refusal_of_all network.now groups.now ≡ None }
     ensures { Decides result (after network.now groups.now ≡ Some other.now) }
 {

@@ -24,6 +24,7 @@ pub(crate) struct Finished<N: Naming> {
 }
 
 /// A session with one client, as `serve`, with the failed calls of its reader and writer counted.
+#[inline(never)]
 pub(crate) fn serve_client<S: Served, C: Copies, I: BufRead, W: Write>(
     rt: &S::Runtime,
     alloc: Global,

@@ -20,6 +20,7 @@ use std::thread::Threads;
 use suppositions::Supposed;
 
 /// Writes what is near a node in the supposed network, and sends it.
+#[inline(never)]
 pub(crate) fn near_supposed<R: Threads, W: Write>(
     rt: &R,
     alloc: Global,
@@ -75,6 +76,7 @@ fn find_table<R: Threads>(
 }
 
 /// Writes the lengths of all pairs of a table in the supposed network, and sends them.
+#[inline(never)]
 pub(crate) fn table_supposed<R: Threads, W: Write>(
     rt: &R,
     alloc: Global,

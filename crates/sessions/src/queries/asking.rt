@@ -58,6 +58,7 @@ fn answer_by<S: Served>(
 
 /// The reply to a query, from a glance of this moment: it is right in the network of the version that it names, which comes after groups that begin with
 /// everything that was seen and learned at the place. Or the refusal of the glance, the place or the row.
+#[inline(never)]
 pub(crate) fn ask<S: Served>(
     place: &mut Option<Place<S::Naming>>,
     desk: &Handle<S>,
@@ -73,6 +74,7 @@ pub(crate) fn ask<S: Served>(
 }
 
 /// Writes what the shown network has of what is asked for, and sends it.
+#[inline(never)]
 pub(crate) fn look_shown<S: Served, W: Write>(
     place: &mut Option<Place<S::Naming>>,
     desk: &Handle<S>,
@@ -89,6 +91,7 @@ pub(crate) fn look_shown<S: Served, W: Write>(
 }
 
 /// Makes a copy of what is seen at a glance, under this name, and returns its version. It fails if the copy is not made (46, 43, 10, 11).
+#[inline(never)]
 fn copy_by<N: Naming, C: Copies>(
     alloc: Global,
     copies: &C,

@@ -183,6 +183,7 @@ fn answer_table<S: Served, W: Write>(
 }
 
 /// Writes what is near a node in the shown view, and sends it.
+#[inline(never)]
 pub(crate) fn near_shown<S: Served, W: Write>(
     place: &mut Option<Place<S::Naming>>,
     desk: &Handle<S>,
@@ -215,6 +216,7 @@ fn pairs_shown<S: Served, W: Write>(
 }
 
 /// Writes the lengths of all pairs of a table in the shown view, all of one version, and sends them. It takes 52 bytes a pair.
+#[inline(never)]
 pub(crate) fn table_shown<S: Served, W: Write>(
     place: &mut Option<Place<S::Naming>>,
     alloc: Global,

@@ -12,8 +12,9 @@ use crate::session::seeing::see;
 use crate::told::telling::tell_refusal;
 use desk::{Glance, Handle, Place, Served};
 use printing::{CountedWriter, Failed, put_refusal, put_route};
-use roadnet::{Network, OutOfMemory, Refusal};
+use roadnet::{OutOfMemory, Refusal};
 use routes::RouteReply;
+use shared_network::SharedNetwork;
 use std::alloc::Global;
 use std::io::Write;
 use std::thread::Threads;
@@ -23,7 +24,7 @@ use suppositions::Supposed;
 fn put_found<W: Write>(
     out: &mut CountedWriter<'_, W>,
     heading: Heading,
-    network: &Network,
+    network: &SharedNetwork,
     source: u64,
     target: u64,
     found: &Result<RouteReply, OutOfMemory>,
@@ -43,7 +44,7 @@ fn put_found<W: Write>(
 fn tell_route<W: Write>(
     out: &mut CountedWriter<'_, W>,
     heading: Heading,
-    network: &Network,
+    network: &SharedNetwork,
     source: u64,
     target: u64,
     found: &Result<RouteReply, OutOfMemory>,
@@ -70,6 +71,7 @@ fn answer_route<S: Served, W: Write>(
 }
 
 /// Writes a route in the shown view, and sends it.
+#[inline(never)]
 pub(crate) fn route_shown<S: Served, W: Write>(
     place: &mut Option<Place<S::Naming>>,
     desk: &Handle<S>,
@@ -87,6 +89,7 @@ pub(crate) fn route_shown<S: Served, W: Write>(
 }
 
 /// Writes a route in the supposed network, and sends it.
+#[inline(never)]
 pub(crate) fn route_supposed<R: Threads, W: Write>(
     rt: &R,
     alloc: Global,

@@ -106,6 +106,7 @@ impl<N: Naming> Session<N> {
     }
 
     /// Writes what a group comes to, and sends it out; in a session that asks alone that it is refused (64).
+    #[inline(never)]
     pub(crate) fn submit<S: Served<Naming = N>, C: Copies, W: Write>(
         &mut self,
         desk: &Handle<S>,

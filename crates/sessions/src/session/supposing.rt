@@ -23,6 +23,7 @@ use std::thread::Threads;
 use suppositions::Supposed;
 
 /// Supposes the group, based on what is shown at this moment. It fails if no place or no view is available, and as the network refuses.
+#[inline(never)]
 fn suppose<S: Served>(
     alloc: Global,
     desk: &Handle<S>,
@@ -45,6 +46,7 @@ fn suppose<S: Served>(
 }
 
 /// Writes the answer to a query in the supposed network, and sends it.
+#[inline(never)]
 pub(crate) fn query_supposed<R: Threads, W: Write>(
     rt: &R,
     alloc: Global,

@@ -1,4 +1,4 @@
-use Rattle.roadnet.proofs.Probed.{see-set, see-close, see-close_other, see-reopen, see-reopen_other, see-mark, see-mark_other, see-unmark, see-unmark_other, see-lay, see-lay_other}
+use Rattle.roadnet.proofs.Seen.{see-set, see-close, see-close_other, see-reopen, see-reopen_other, see-mark, see-mark_other, see-unmark, see-unmark_other, see-lay, see-lay_other}
 use Rattle.roadnet.proofs.probes.seen_after_one.Goals as goal
 
 pub returns-in-Set : goal.returns-in-Set

@@ -1,4 +1,4 @@
-use Rattle.std.proofs.Common.{◌∙◌, ℕ, ◌/◌, false, get_or, refl, arith}
+use Rattle.std.proofs.Common.{◌∙◌, ◌/◌, ◌<◌, false, length, ap, sym, arith}
 use Rattle.std.proofs.lemmas.List.{length-set}
 use Rattle.roadnet.specs.declared.arcs.RoadArc.{RoadArc}
 use Rattle.snapshot.proofs.Indexed.{file_more}
@@ -9,10 +9,12 @@ no_arc = record { tail = 0; head = 0; length = 0; opened = false }
 
 pub loop-place-preserved : goal.loop-place-preserved
 loop-place-preserved c =
-    let tail = c.requires.tails c.loop-place.place no_arc (omega (arith, c.loop-place-test.true)) in
-    let block : ℕ = (get_or c.args.arcs.now c.loop-place.place no_arc).tail / 1024 in
-    let long = length-set c.loop-place.lists ((get_or c.args.arcs.now c.loop-place.place no_arc).tail / 1024) c.push.new.self in
+    let within : c.loop-place.place < length c.args.arcs.now = omega (arith, c.loop-place-test.true, c.len-place-end.ensures) in
+    let is = c.get.ensures.item no_arc in
+    let tail = c.requires.tails c.loop-place.place no_arc within in
+    let tails = ap (λ (arc : RoadArc). arc.tail) is in
+    let long = length-set c.loop-place.lists (c.get.result.now.tail / 1024) c.push.new.self in
     record {
       blocks = long ∙ c.loop-place.invariant.blocks;
-      added = λ block h. file_more (λ list. list.items) c.loop-place.lists c.push.new.self c.args.arcs.now c.loop-place.place ((get_or c.args.arcs.now c.loop-place.place no_arc).tail / 1024) no_arc (omega (arith, c.loop-place-test.true)) refl (omega (arith, tail, c.loop-place.invariant.blocks)) c.index-lists-block.result c.in_ok-push.ensures.items block (c.loop-place.invariant.added block (omega (arith, h, long)));
+      added = λ block h. file_more (λ list. list.items) c.loop-place.lists c.push.new.self c.args.arcs.now c.loop-place.place (c.get.result.now.tail / 1024) no_arc within (ap (λ (arc : RoadArc). arc.tail / 1024) (sym is)) (omega (arith, tail, tails, c.loop-place.invariant.blocks)) c.index-lists-block.result c.in_ok-push.ensures.items block (c.loop-place.invariant.added block (omega (arith, h, long)));
     }

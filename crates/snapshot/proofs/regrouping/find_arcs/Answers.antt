@@ -1,15 +1,12 @@
-use Rattle.std.proofs.Common.{◌≡◌, ◌∙◌, false, List, [], ◌∷◌, ◌++◌, map, get_or, ap, ap₂, sym, arith}
-use Rattle.std.proofs.lemmas.List.{map_more, take_all, get_or_default}
+use Rattle.std.proofs.Common.{◌≡◌, ◌∙◌, List, [], ◌∷◌, ◌++◌, map, get_or, ap, ap₂, sym, arith}
+use Rattle.std.proofs.lemmas.List.{map_more, take_all}
 use Rattle.roadnet.specs.declared.arcs.RoadArc.{RoadArc}
 use Rattle.snapshot.specs.Blocks.{within_block}
 use Rattle.snapshot.proofs.regrouping.find_arcs.Goals as goal
 
-abbrev no_arc : RoadArc
-no_arc = record { tail = 0; head = 0; length = 0; opened = false }
-
 pub loop-place-preserved : goal.loop-place-preserved
 loop-place-preserved c d =
-    let here : c.within_block.result ≡ within_block (get_or c.args.arcs.now (get_or c.args.places.now c.loop-place.place-index 0) d) = c.within_block.ensures ∙ ap within_block (get_or_default c.args.arcs.now (get_or c.args.places.now c.loop-place.place-index 0) no_arc d (c.requires c.loop-place.place-index 0 (omega (arith, c.loop-place-test.true)))) in
+    let here : c.within_block.result ≡ within_block (get_or c.args.arcs.now (get_or c.args.places.now c.loop-place.place-index 0) d) = c.within_block.ensures ∙ ap within_block (sym (c.get.ensures.item d)) in
     c.in_ok-push.ensures.items
     ∙ (ap₂ (λ (xs : List RoadArc) (x : RoadArc). xs ++ x ∷ []) (c.loop-place.invariant d) here
     ∙ sym (map_more (λ place. within_block (get_or c.args.arcs.now place d)) c.args.places.now c.loop-place.place-index 0 (omega (arith, c.loop-place-test.true))))

@@ -1,8 +1,7 @@
-use Rattle.std.proofs.Common.{ℕ, List, ◌∷◌, Option, None, ap, sym, ◌∙◌}
 use Rattle.deltastep.proofs.Finishing.{RowOf-over}
 use Rattle.deltastep.proofs.repairs.repairing.goes_on.Goals as goal
 
 pub returns : goal.returns
 returns g c = record {
-  row = λ net snapshot. RowOf-over net c.args.snapshot.now snapshot c.requires.grouped c.args.source c.settle_all.new.self.frontier.tentative c.in_ok-from_words.field-0 c.requires.node.0 c.requires.node.1 (c.in_ok-settle_all.ensures.settled c.args.source c.requires.state) (c.into_words.ensures.words ∙ ap (λ (l : List (Option ℕ)). None ∷ l) (sym c.in_ok-from_words.ensures));
+  row = λ net snapshot. RowOf-over net c.args.snapshot.now snapshot c.requires.grouped c.args.source c.settle_all.new.self.frontier.tentative c.in_ok-row.row c.requires.node.0 c.requires.node.1 (c.in_default.ensures.settled c.args.source c.requires.state) c.in_ok-row.ensures;
 }

@@ -1,4 +1,4 @@
-use Rattle.std.proofs.Common.{◌≡◌, ◌∙◌, ℕ, ◌+◌, ◌/◌, ◌≤◌, length, sym, subst}
+use Rattle.std.proofs.Common.{◌∙◌, ℕ, ◌/◌, ◌≤◌, sym, subst}
 use Rattle.deltastep.specs.Search.{AreLater}
 use Rattle.deltastep.proofs.Phases.{on_true}
 use Rattle.deltastep.proofs.Ending.{beyond_later}
@@ -7,7 +7,7 @@ use Rattle.deltastep.proofs.searches.search.Search.settle_for.Goals as goal
 pub is_enough-requires : goal.is_enough-requires
 is_enough-requires g c =
     let between = c.in_ok-bucket.ensures.state c.requires.state.0 (c.buckets.invariant.state c.requires.state.0 c.requires.state.1) in
-    record { suits = rw c.values.ensures.value (subst (λ (n : ℕ). g.A.Question.suits c.args.asked.now n) (sym between.search.places) c.requires.suits) }
+    record { suits = subst (λ (n : ℕ). g.A.Question.suits c.args.asked.now n) (sym between.search.places) c.requires.suits }
 
 pub returns-then-is_enough-clause-beyond : goal.returns-then-is_enough-clause-beyond
 returns-then-is_enough-clause-beyond g c =

@@ -1,0 +1,8 @@
+//! Arrays in chunks that their versions share: a change copies the one chunk that it touches.
+#![tactic(auto)]
+
+mod arrays;
+mod chunks;
+
+pub use arrays::ChunkedArray;
+pub use chunks::CHUNK;

@@ -1,6 +1,0 @@
-use Rattle.std.proofs.Common.{◌≡◌, map, take}
-use Rattle.deltastep.specs.Words.{distance_of_short, distance_of_word}
-use Rattle.deltastep.proofs.rows.words.lengthened.Given as goal
-
-abbrev pub invariant-loop-word : goal.invariant-loop-word
-invariant-loop-word l = map distance_of_word l.long.items ≡ map distance_of_short (take l.word-index l.words)

@@ -1,6 +1,0 @@
-use Rattle.std.proofs.Common.{◌≡◌, take}
-use Rattle.relax.specs.Requests.{requests_of}
-use Rattle.relax.proofs.team.SoloTeam.requests.Given as goal
-
-abbrev pub invariant-loop-node : goal.invariant-loop-node
-invariant-loop-node l = l.requests.items ≡ requests_of l.snapshot (take l.node-index l.nodes) l.tentative l.part

@@ -7,7 +7,7 @@ use Rattle.std.proofs.lemmas.List.{append-nil, drop-take, length-take, length-ta
 use Rattle.std.proofs.lemmas.List.Concat.{flat_map-append}
 use Rattle.std.specs.declared.sync.Arc.{Arc}
 use Rattle.chunked.specs.declared.chunks.Chunk.{Chunk}
-use Rattle.chunked.proofs.Joined.{length-joined, get_or-joined, take-joined, set-joined}
+use Rattle.chunked.proofs.Joined.{length-joined, get_or-joined, take-before, take-joined, set-joined}
 
 abbrev pub items_of : {T : Type 0} → Arc (Chunk T) Global → List T
 items_of chunk = chunk.value.items.items
@@ -78,6 +78,23 @@ chunk_more {T} chunks c items part k size h sofar is begins =
     ∙ (ap (λ m. take m (flat_map items_of chunks ++ items_of c)) at
     ∙ (take-append-add (flat_map items_of chunks) (items_of c) (length items - k * 1024)
     ∙ (ap₂ (λ (xs ys : List T). xs ++ ys) before (own ∙ next) ∙ (sym (take-add (k * 1024) 1024 items) ∙ ap (λ m. take m items) e))))
+
+-- ---- the next items, behind those that fill their chunks
+module _ {T : Type 0} (chunks : List (Arc (Chunk T) Global)) (len : ℕ) (fits : len ≤ length chunks * 1024) (whole : len % 1024 ≡ 0) where
+  before : flat_map items_of (take (len / 1024) chunks) ≡ take len (flat_map items_of chunks)
+  before =
+      let e : len / 1024 * 1024 ≡ len = omega (arith, whole) in
+      take-before items_of 1024 full chunks (len / 1024) ∙ ap (λ m. take m (flat_map items_of chunks)) e
+
+  pub cut-fits : len ≤ length (take (len / 1024) chunks) * 1024
+  cut-fits = omega (arith, whole, length-take-le (len / 1024) chunks (omega (arith, fits)))
+
+  pub append_items : (c : Arc (Chunk T) Global) (items : List T) → take (length items) (items_of c) ≡ items → take (len + length items) (flat_map items_of (take (len / 1024) chunks ++ c ∷ [])) ≡ take len (flat_map items_of chunks) ++ items
+  append_items c items begins =
+      let long : len ≡ length (flat_map items_of (take (len / 1024) chunks)) = sym (ap length before ∙ length-items chunks len fits) in
+      ap (take (len + length items)) (joined_more (take (len / 1024) chunks) c)
+      ∙ (ap (λ m. take (m + length items) (flat_map items_of (take (len / 1024) chunks) ++ items_of c)) long
+      ∙ (take-append-add (flat_map items_of (take (len / 1024) chunks)) (items_of c) (length items) ∙ ap₂ (λ (xs ys : List T). xs ++ ys) before begins))
 
 -- ---- the items of one chunk
 pub chunk_is : {T : Type 0} (chunks : List (Arc (Chunk T) Global)) (len k : ℕ) (c : Arc (Chunk T) Global) → len ≤ length chunks * 1024 → k * 1024 < len → c ≡ get_or chunks k c → take (min 1024 (len - k * 1024)) (items_of c) ≡ take 1024 (drop (k * 1024) (take len (flat_map items_of chunks)))

@@ -1,7 +1,8 @@
 -- Lists of one size, joined end to end: where the items of each stand.
 use Rattle.std.proofs.Common.{◌≡◌, ◌∙◌, ℕ, zero, suc, ◌+◌, ◌-◌, ◌*◌, ◌<◌, List, [], ◌∷◌, ◌++◌, length, get_or, set, take, drop, refl, sym, ap, arith}
 use Rattle.std.specs.List.{flat_map}
-use Rattle.std.proofs.lemmas.List.{length-append, get_or-drop, get_or_append_left, take_at, drop_at, drop_all, drop_more, set-append_left, set-append_right, drop-drop}
+use Rattle.std.proofs.Math.Seq.{take-append-add}
+use Rattle.std.proofs.lemmas.List.{length-append, get_or-drop, get_or_append_left, take_at, drop_at, drop_all, drop_more, take_all, set-append_left, set-append_right, drop-drop}
 
 module _ {X A : Type 0} (f : X → List A) (n : ℕ) (each : (x : X) → length (f x) ≡ n) where
   pub length-joined : (xs : List X) → length (flat_map f xs) ≡ length xs * n
@@ -17,6 +18,16 @@ module _ {X A : Type 0} (f : X → List A) (n : ℕ) (each : (x : X) → length 
   drop-joined (x ∷ xs) (suc k) =
       let e : suc k * n ≡ n + k * n = omega arith in
       rw e (sym (drop-drop (k * n) n (f x ++ flat_map f xs)) ∙ (ap (drop (k * n)) (drop_at (f x) (flat_map f xs) n (each x)) ∙ drop-joined xs k))
+
+  -- what stands before the k-th list
+  pub take-before : (xs : List X) (k : ℕ) → flat_map f (take k xs) ≡ take (k * n) (flat_map f xs)
+  take-before xs zero =
+      let e : 0 * n ≡ 0 = omega arith in
+      rw e refl
+  take-before [] (suc k) = sym (take_all (suc k * n) [] (omega arith))
+  take-before (x ∷ xs) (suc k) =
+      let e : suc k * n ≡ length (f x) + k * n = omega (arith, each x) in
+      rw e (ap (λ (l : List A). f x ++ l) (take-before xs k) ∙ sym (take-append-add (f x) (flat_map f xs) (k * n)))
 
   -- the same, with the k-th list first
   from_kth : (xs : List X) (k : ℕ) (d : X) → k < length xs → drop (k * n) (flat_map f xs) ≡ f (get_or xs k d) ++ flat_map f (drop (k + 1) xs)

@@ -10,7 +10,7 @@ ghost use Rattle.roadnet.specs.Groups.{commands_of};
 ghost use Rattle.roadnet.specs.Judging.{IsVerdict};
 ghost use Rattle.roadnet.specs.Undoing.{undone};
 
-use crate::ascending::{put, take_out};
+use crate::ascending::{add_member, remove_member};
 use crate::commands::Command;
 use crate::flags::names_no_node;
 use crate::groups::Group;
@@ -30,8 +30,8 @@ fn change_landmarks(landmarks: &mut Vec<u32>, command: &Command) -> Result<(), A
     ensures { OnOk result (landmarks.new.items ≡ changed_landmarks landmarks.old.items command.now) }
 {
     match *command {
-        Command::Mark { node } => put(landmarks, node as u32)?,
-        Command::Unmark { node } => take_out(landmarks, node as u32),
+        Command::Mark { node } => add_member(landmarks, node as u32)?,
+        Command::Unmark { node } => remove_member(landmarks, node as u32),
         Command::Set { arc: _, length: _ } => {}
         Command::Close { arc: _ } => {}
         Command::Reopen { arc: _ } => {}

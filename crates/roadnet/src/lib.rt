@@ -17,6 +17,7 @@ mod reversal;
 mod undoing;
 
 pub use arcs::RoadArc;
+pub use ascending::{add_member, is_member, remove_member};
 pub use batches::Undo;
 pub use commands::Command;
 pub use groups::{Group, MOST_OF_GROUP};

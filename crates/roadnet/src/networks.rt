@@ -3,7 +3,7 @@ ghost use Rattle.roadnet.specs.Made.{is_node_among, is_node_count, is_long, is_s
 ghost use Rattle.roadnet.specs.Members.{set_of};
 
 use crate::arcs::RoadArc;
-use crate::ascending::{collect, contains, put, take_out};
+use crate::ascending::{add_member, collect, is_member, remove_member};
 use crate::commands::Command;
 use crate::judging::{judge_close, judge_lay, judge_mark, judge_reopen, judge_set, judge_unmark};
 use crate::probes::Probed;
@@ -218,7 +218,7 @@ impl Network {
         ensures { result ≡ is_landmark self.now x }
     {
         let landmarks = self.landmarks.as_slice();
-        self.has_node(x) && contains(landmarks, x as u32)
+        self.has_node(x) && is_member(landmarks, x as u32)
     }
 
     /// The arc of number `k`, if there is one.
@@ -307,9 +307,9 @@ impl Network {
                 found.opened = true;
             }
             Command::Mark { node } => {
-                put(&mut self.landmarks, node as u32)?;
+                add_member(&mut self.landmarks, node as u32)?;
             }
-            Command::Unmark { node } => take_out(&mut self.landmarks, node as u32),
+            Command::Unmark { node } => remove_member(&mut self.landmarks, node as u32),
             Command::Lay { tail, head, length } => {
                 let laid = RoadArc {
                     tail: tail as u32,

@@ -8,7 +8,7 @@ ghost use Rattle.roadnet.specs.Step.{TakesMemory};
 ghost use Rattle.roadnet.specs.Batches.{changed_landmarks};
 
 use crate::arcs::RoadArc;
-use crate::ascending::contains;
+use crate::ascending::is_member;
 use crate::batches::landmarks_after;
 use crate::commands::Command;
 use crate::flags::{change_flags, names_no_node, restore_flags};
@@ -86,7 +86,7 @@ impl Outline {
         ensures { result ≡ is_member x self.now.landmarks }
     {
         let landmarks = self.landmarks.as_slice();
-        self.has_node(x) && contains(landmarks, x as u32)
+        self.has_node(x) && is_member(landmarks, x as u32)
     }
 
     /// Whether arc `k` is open, if there is such an arc.

@@ -2,9 +2,9 @@ ghost use Rattle.std.specs.Prelude.{◌≡◌, ◌&&◌, ◌<◌, ◌↔◌, fal
 ghost use Rattle.roadnet.specs.Net.{IsNode, IsNetwork, arc_at};
 ghost use Rattle.roadnet.specs.Step.{is_landmark};
 
-use crate::marking::{copied, is_member};
+use crate::marking::copied;
 use chunked::ChunkedArray;
-use roadnet::{Network, OutOfMemory, RoadArc};
+use roadnet::{Network, OutOfMemory, RoadArc, is_member};
 use std::alloc::Global;
 use std::marker::Model;
 use std::sync::Arc;

@@ -65,6 +65,13 @@ impl Work {
         &self.task.view
     }
 
+    /// The view that was shown when the task was taken: all that is left of the work then. It takes no memory.
+    pub fn into_shown(self) -> Arc<View>
+        ensures { result.value ≡ self.before }
+    {
+        self.task.view
+    }
+
     /// The network at the version: the shown view's after the groups since, with which it shares what they do not change. The only error is lack of memory.
     ///
     /// If version 0 of `examples/six.gr` is shown and `Close { arc: 7 }` is durable, arc 7 is closed in it.

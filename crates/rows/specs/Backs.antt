@@ -17,6 +17,10 @@ abbrev pub numbered_from : ℕ → List RoadArc → List RoadArc
 numbered_from n [] = []
 numbered_from n (arc ∷ arcs) = back_numbered n arc ∷ numbered_from (suc n) arcs
 
+-- the network with each arc so
+abbrev pub numbered_back : Net → Net
+numbered_back net = record net { arcs = numbered_from 1 net.arcs }
+
 -- what stands for an arc at its head: its tail and its number
 abbrev pub numbered_leg : ℕ → RoadArc → Leg
 numbered_leg k arc = record { head = arc.tail; length = k }

@@ -1,13 +1,13 @@
 //! The arcs of a network the other way round, grouped, each with its number.
 
-ghost use Rattle.std.specs.Prelude.{◌≡◌, ◌≤◌, ◌^◌, IfOk, length};
+ghost use Rattle.std.specs.Prelude.{◌≡◌, ◌≤◌, IfOk, drop, length};
+ghost use Rattle.roadnet.specs.Ends.{KeepsEnds};
 ghost use Rattle.rows.specs.Backs.{back_numbered, numbered_from, LeadsBack};
 
-use chunked::ChunkedArray;
-use roadnet::{LONGEST_ARC, Network, OutOfMemory, RoadArc};
+use roadnet::{LONGEST_ARC, OutOfMemory, RoadArc};
 use shared_network::SharedNetwork;
-use snapshot::Snapshot;
-use std::alloc::Global;
+use snapshot::{Roads, Snapshot};
+use std::alloc::{AllocError, Global};
 
 /// The arc the other way round, open, with its number in place of its length.
 fn numbered(number: u32, arc: RoadArc) -> RoadArc
@@ -21,42 +21,78 @@ fn numbered(number: u32, arc: RoadArc) -> RoadArc
     }
 }
 
-/// The arcs of these numbers, each the other way round, in the same order.
-fn number_all(alloc: Global, arcs: &ChunkedArray<RoadArc>) -> Result<Vec<RoadArc>, OutOfMemory>
-    requires { length arcs.now ≤ 2 ^ 26 }
-    ensures { IfOk result (λ all. all.items ≡ numbered_from 1 arcs.now) }
-{
-    let mut all = Vec::with_capacity(alloc, arcs.len())?;
-    for place in 0..arcs.len() {
-        let arc = *arcs.get(place);
-        if all.push(numbered(place as u32 + 1, arc)).is_err() {
-            return Err(OutOfMemory);
-        }
-    }
-    Ok(all)
+/// A network of which each arc is read the other way round, open, with its number in place of its length.
+struct Numbered<'a> {
+    network: &'a SharedNetwork,
 }
 
-/// The network of all arcs of another one, open or closed, each so. The only error is lack of memory.
-fn numbered_network(alloc: Global, network: &SharedNetwork) -> Result<SharedNetwork, OutOfMemory>
-    ensures nodes { IfOk result (λ turned. turned.nodes ≡ network.now.nodes) }
-    ensures arcs { IfOk result (λ turned. turned.arcs ≡ numbered_from 1 network.now.arcs) }
-{
-    let arcs = number_all(alloc, network.arcs())?;
-    let Ok(turned) = Network::new(alloc, network.nodes(), arcs, &[]) else {
-        return Err(OutOfMemory);
-    };
-    SharedNetwork::of(alloc, &turned)
+impl Roads for Numbered<'_> {
+    ghost use Rattle.rows.specs.Backs.{numbered_back};
+
+    ghost network = { λ roads. numbered_back roads.network.now };
+
+    #[inline(always)]
+    fn node_count(&self) -> u32 {
+        self.network.nodes()
+    }
+
+    #[inline(always)]
+    fn arc_count(&self) -> usize {
+        self.network.arcs().len()
+    }
+
+    #[inline(always)]
+    fn arc_at_place(&self, place: usize) -> RoadArc {
+        numbered(place as u32 + 1, *self.network.arcs().get(place))
+    }
 }
 
 /// All arcs of a network, open or closed, grouped by their heads. The legs of a node are the tails of the arcs that lead to it, each with the arc's number in
 /// place of a length. So it serves this network, those from which it came by commands, and those that come from it until an arc is laid, whatever the
-/// lengths and whichever arcs are open. Its only error is lack of memory, for 8 bytes an arc and 4 a node, and temporarily 32 more an arc.
+/// lengths and whichever arcs are open. Its only error is lack of memory, for 8 bytes an arc and 4 a node, and temporarily 4 more an arc.
 pub fn numbered_back(alloc: Global, network: &SharedNetwork) -> Result<Snapshot, OutOfMemory>
     ensures { IfOk result (LeadsBack network.now) }
 {
-    let turned = numbered_network(alloc, network)?;
+    let back = Snapshot::build(alloc, &Numbered { network }, LONGEST_ARC)?;
     let _nodes = network.nodes();
-    let back = Snapshot::build(alloc, &turned, LONGEST_ARC)?;
     let _grouped = back.nodes();
     Ok(back)
+}
+
+/// The arcs of a network from this place on, each the other way round with its number.
+fn numbered_arcs(
+    alloc: Global,
+    network: &SharedNetwork,
+    first: usize,
+) -> Result<Vec<RoadArc>, AllocError>
+    requires { first ≤ length network.now.arcs }
+    ensures { IfOk result (λ all. all.items ≡ drop first (numbered_from 1 network.now.arcs)) }
+{
+    let roads = Numbered { network };
+    let mut all = Vec::new(alloc);
+    for place in first..roads.arc_count() {
+        all.push(roads.arc_at_place(place))?;
+    }
+    Ok(all)
+}
+
+/// What `numbered_back` gives for a newer network, made from what it gave for an older one: with a leg more for each arc that was laid since. It shares the
+/// blocks of all other heads. If more arcs were laid than there are blocks, all is made anew. Its only error is lack of memory.
+pub fn numbered_back_after(
+    alloc: Global,
+    back: &Snapshot,
+    older: &SharedNetwork,
+    newer: &SharedNetwork,
+) -> Result<Snapshot, OutOfMemory>
+    requires back { LeadsBack older.now back.now }
+    requires ends { KeepsEnds older.now newer.now }
+    ensures { IfOk result (LeadsBack newer.now) }
+{
+    let _nodes = newer.nodes();
+    let _grouped = back.nodes();
+    let laid = numbered_arcs(alloc, newer, older.arcs().len())?;
+    match back.with_arcs(alloc, &laid)? {
+        Some(more) => Ok(more),
+        None => numbered_back(alloc, newer),
+    }
 }

@@ -27,7 +27,7 @@ mod views;
 
 pub use answers::{answer_plain, distance_in};
 pub use askers::Asker;
-pub use backs::numbered_back;
+pub use backs::{numbered_back, numbered_back_after};
 pub use ends::PairEnds;
 pub use guides::{Landmarks, laws_of_potentials};
 pub use kept_rows::{DEFAULT_ROWS, RowCache};

@@ -1,5 +1,7 @@
 -- An index, and the legs of nodes, in a newer network.
-use Rattle.std.proofs.Common.{◌≡◌, ◌⊎◌, ◌∙◌, ℕ, zero, suc, ◌+◌, ◌/◌, ◌<◌, Bool, cond, List, [], ◌∷◌, length, get_or, take, refl, inl, inr, ap, ap₂, sym, subst, arith, eqb, ⊎_elim, Contains}
+use Rattle.std.proofs.Common.{◌≡◌, ◌⊎◌, ◌∙◌, ℕ, zero, suc, ◌+◌, ◌/◌, ◌<◌, Bool, cond, List, [], ◌∷◌, length, get_or, map, take, Vec, Global, refl, inl, inr, ap, ap₂, sym, subst, arith, eqb, ⊎_elim, Contains}
+use Rattle.std.specs.List.{AllZip}
+use Rattle.std.specs.declared.sync.Arc.{Arc}
 use Rattle.std.proofs.lemmas.Bool.{cases_eq}
 use Rattle.std.proofs.lemmas.List.{get_or-take, length-take-le, take_all}
 use Rattle.roadnet.specs.declared.arcs.RoadArc.{RoadArc}
@@ -23,7 +25,7 @@ places-same block i (x ∷ xs) (y ∷ ys) size same =
     ap₂ (λ (b : Bool) (l : List ℕ). cond b (i ∷ l) l) here rest
 
 -- The index of a network's arcs has the older arcs of each newer one.
-index_stays : (old new : Net) (places : List (List ℕ)) → KeepsEnds old new → AreArcsByBlock old.nodes old.arcs places → AreArcsByBlock new.nodes (take (length old.arcs) new.arcs) places
+pub index_stays : (old new : Net) (places : List (List ℕ)) → KeepsEnds old new → AreArcsByBlock old.nodes old.arcs places → AreArcsByBlock new.nodes (take (length old.arcs) new.arcs) places
 index_stays old new places keeps index =
     let long : length old.arcs ≡ length (take (length old.arcs) new.arcs) = sym (length-take-le (length old.arcs) new.arcs (no_fewer old new keeps)) in
     let same : (block : ℕ) → places_of_block block 0 old.arcs ≡ places_of_block block 0 (take (length old.arcs) new.arcs) = λ block. places-same block 0 old.arcs (take (length old.arcs) new.arcs) long (λ k d h. ap (λ (a : RoadArc). a.tail) (get_or-take (length old.arcs) new.arcs k d h) ∙ (tail_stays old new keeps k d h).1) in
@@ -31,6 +33,13 @@ index_stays old new places keeps index =
       blocks = index.blocks ∙ ap block_count (sym keeps.nodes);
       each = λ block h. index.each block (omega (arith, ap block_count keeps.nodes)) ∙ same block;
     }
+
+-- shares of lists are the same lists
+pub same_lists : (lists others : List (Arc (Vec ℕ Global) Global)) → AllZip (λ (one other : Arc (Vec ℕ Global) Global). other.value ≡ one.value) lists others → map (λ (list : Arc (Vec ℕ Global) Global). list.value.items) others ≡ map (λ (list : Arc (Vec ℕ Global) Global). list.value.items) lists
+same_lists [] [] h = refl
+same_lists [] (other ∷ others) h = absurd h
+same_lists (list ∷ lists) [] h = absurd h
+same_lists (list ∷ lists) (other ∷ others) h = ap₂ (λ (xs : List ℕ) (l : List (List ℕ)). xs ∷ l) (ap (λ (v : Vec ℕ Global). v.items) h.0) (same_lists lists others h.1)
 
 -- the same index, where no arc was laid
 pub index_onward : (old new : Net) (places : List (List ℕ)) → KeepsEnds old new → length new.arcs ≡ length old.arcs → AreArcsByBlock old.nodes old.arcs places → AreArcsByBlock new.nodes new.arcs places

@@ -52,7 +52,7 @@ own_part : (arc : RoadArc) (delta : ℕ) (b : Bool) → leb arc.length delta ≡
 own_part arc delta true e = (Light, e)
 own_part arc delta false e = (Heavy, rw e refl)
 
-own_legs : (arcs : List RoadArc) (delta : ℕ) (part : Part) (arc : RoadArc) → Contains arcs arc → arc.opened ≡ true → is_in_part delta part arc ≡ true → Contains (legs_in arcs delta part arc.tail) (leg_of arc)
+pub own_legs : (arcs : List RoadArc) (delta : ℕ) (part : Part) (arc : RoadArc) → Contains arcs arc → arc.opened ≡ true → is_in_part delta part arc ≡ true → Contains (legs_in arcs delta part arc.tail) (leg_of arc)
 own_legs arcs delta part arc c opened here =
     let passes : RoadArc → Bool = λ (a : RoadArc). a.opened && (eqb a.tail arc.tail && is_in_part delta part a) in
     Contains-map leg_of (filter passes arcs) arc (Contains-filter passes arcs arc c (ap₂ (λ (s t : Bool). s && t) opened (ap₂ (λ (s t : Bool). s && t) (eq-eqb arc.tail arc.tail refl) here)))
@@ -120,7 +120,7 @@ same_part delta Light arc = refl
 same_part delta Heavy arc = refl
 
 -- the test by which a node's legs of a part are found
-abbrev passes : ℕ → Part → ℕ → RoadArc → Bool
+abbrev pub passes : ℕ → Part → ℕ → RoadArc → Bool
 passes delta part u arc = arc.opened && (eqb arc.tail u && is_in_part delta part arc)
 
 same_passes : (delta : ℕ) (part : Part) (block r : ℕ) (arc : RoadArc) → r < 1024 → is_of_block block arc ≡ true → passes delta part r (within_block arc) ≡ passes delta part (block * 1024 + r) arc

@@ -12,5 +12,6 @@ pub mod Indexed
 pub mod Unchanged
 pub mod Blocked
 pub mod Shared
+pub mod Appended
 pub mod Differing
 pub mod Named

@@ -1,3 +1,4 @@
+pub mod Appended
 pub mod Blocks
 pub mod Changes
 pub mod Groups

@@ -5,13 +5,14 @@ ghost use Rattle.roadnet.specs.declared.arcs.RoadArc.{RoadArc as road_arc};
 ghost use Rattle.snapshot.specs.Blocks.{AreBlockParts, AreBlocksOf, arcs_of_block, block_parts, places_of_block, within_block};
 
 use crate::blocks::{BLOCK, Block};
+use crate::roads::Roads;
 use chunked::ChunkedArray;
 use roadnet::RoadArc;
 use std::alloc::{AllocError, Global};
 use std::sync::Arc;
 
 /// The arc, its tail counted from the first one of its block.
-fn within_block(arc: &RoadArc) -> RoadArc
+pub(crate) fn within_block(arc: &RoadArc) -> RoadArc
     ensures { result ≡ within_block arc.now }
 {
     RoadArc {
@@ -23,54 +24,54 @@ fn within_block(arc: &RoadArc) -> RoadArc
 }
 
 /// The arcs at these places, their tails counted from the first one of their block, in a list whose earlier content is lost.
-fn find_arcs(
+fn find_arcs<R: Roads>(
     found: &mut Vec<RoadArc>,
-    arcs: &ChunkedArray<RoadArc>,
+    roads: &R,
     places: &[u32],
 ) -> Result<(), AllocError>
-    requires { All (λ place. place < length arcs.now) places.now }
-    ensures { OnOk result ((d : road_arc) → found.new.items ≡ map (λ place. within_block (slice_index_or arcs.now place d)) places.now) }
+    requires { All (λ place. place < length (R.network roads.now).arcs) places.now }
+    ensures { OnOk result ((d : road_arc) → found.new.items ≡ map (λ place. within_block (slice_index_or (R.network roads.now).arcs place d)) places.now) }
 {
     found.clear();
     for &place in places {
-        found.push(within_block(arcs.get(place as usize)))?;
+        found.push(within_block(&roads.arc_at_place(place as usize)))?;
     }
     Ok(())
 }
 
 /// The arcs of a block, at whose places they are, grouped. The list is for the time being.
-fn regrouped(
+fn regrouped<R: Roads>(
     alloc: Global,
-    arcs: &ChunkedArray<RoadArc>,
+    roads: &R,
     places: &[u32],
     delta: u32,
     found: &mut Vec<RoadArc>,
 ) -> Result<Arc<Block>, AllocError>
-    requires few { length arcs.now ≤ 2 ^ 26 }
-    requires places { (block : ℕ) × (places.now ≡ places_of_block block 0 arcs.now) }
-    ensures { IfOk result (λ made. (block : ℕ) → places.now ≡ places_of_block block 0 arcs.now → AreBlockParts (arcs_of_block block arcs.now) delta (block_parts made.value.starts made.value.legs.items)) }
+    requires few { length (R.network roads.now).arcs ≤ 2 ^ 26 }
+    requires places { (block : ℕ) × (places.now ≡ places_of_block block 0 (R.network roads.now).arcs) }
+    ensures { IfOk result (λ made. (block : ℕ) → places.now ≡ places_of_block block 0 (R.network roads.now).arcs → AreBlockParts (arcs_of_block block (R.network roads.now).arcs) delta (block_parts made.value.starts made.value.legs.items)) }
 {
-    find_arcs(found, arcs, places)?;
+    find_arcs(found, roads, places)?;
     let block = Block::group(alloc, found, delta)?;
     Ok(Arc::new(alloc, block)?)
 }
 
 /// The blocks of all arcs.
-pub(crate) fn all_blocks(
+pub(crate) fn all_blocks<R: Roads>(
     alloc: Global,
-    arcs: &ChunkedArray<RoadArc>,
-    index: &[Vec<u32>],
+    roads: &R,
+    index: &[Arc<Vec<u32>>],
     delta: u32,
 ) -> Result<Vec<Arc<Block>>, AllocError>
-    requires few { length arcs.now ≤ 2 ^ 26 }
-    requires index { (block : ℕ) → block < length index.now → slice_index_or (map (λ places. places.items) index.now) block [] ≡ places_of_block block 0 arcs.now }
+    requires few { length (R.network roads.now).arcs ≤ 2 ^ 26 }
+    requires index { (block : ℕ) → block < length index.now → slice_index_or (map (λ places. places.value.items) index.now) block [] ≡ places_of_block block 0 (R.network roads.now).arcs }
     ensures count { IfOk result (λ blocks. length blocks.items ≡ length index.now) }
-    ensures each { IfOk result (λ blocks. AreBlocksOf arcs.now delta (map (λ block. block_parts block.value.starts block.value.legs.items) blocks.items)) }
+    ensures each { IfOk result (λ blocks. AreBlocksOf (R.network roads.now).arcs delta (map (λ block. block_parts block.value.starts block.value.legs.items) blocks.items)) }
 {
     let mut blocks = Vec::with_capacity(alloc, index.len())?;
     let mut found = Vec::new(alloc);
     for places in index {
-        blocks.push(regrouped(alloc, arcs, places, delta, &mut found)?)?;
+        blocks.push(regrouped(alloc, roads, places, delta, &mut found)?)?;
     }
     Ok(blocks)
 }
@@ -107,41 +108,41 @@ pub(crate) fn touched_blocks(
 }
 
 /// The arcs of a block, at whose places they are: grouped anew where the block is touched, else the older block, which is shared.
-fn next_block(
+fn next_block<R: Roads>(
     alloc: Global,
     old: &Arc<Block>,
-    arcs: &ChunkedArray<RoadArc>,
+    roads: &R,
     places: &[u32],
     delta: u32,
     touched: bool,
     found: &mut Vec<RoadArc>,
 ) -> Result<Arc<Block>, AllocError>
-    requires few { length arcs.now ≤ 2 ^ 26 }
-    requires places { (block : ℕ) × (places.now ≡ places_of_block block 0 arcs.now) }
-    ensures { IfOk result (λ made. (block : ℕ) → places.now ≡ places_of_block block 0 arcs.now → (touched ≡ false → AreBlockParts (arcs_of_block block arcs.now) delta (block_parts old.now.value.starts old.now.value.legs.items)) → AreBlockParts (arcs_of_block block arcs.now) delta (block_parts made.value.starts made.value.legs.items)) }
+    requires few { length (R.network roads.now).arcs ≤ 2 ^ 26 }
+    requires places { (block : ℕ) × (places.now ≡ places_of_block block 0 (R.network roads.now).arcs) }
+    ensures { IfOk result (λ made. (block : ℕ) → places.now ≡ places_of_block block 0 (R.network roads.now).arcs → (touched ≡ false → AreBlockParts (arcs_of_block block (R.network roads.now).arcs) delta (block_parts old.now.value.starts old.now.value.legs.items)) → AreBlockParts (arcs_of_block block (R.network roads.now).arcs) delta (block_parts made.value.starts made.value.legs.items)) }
 {
     if touched {
-        return regrouped(alloc, arcs, places, delta, found);
+        return regrouped(alloc, roads, places, delta, found);
     }
     Arc::try_clone(old)
 }
 
 /// The blocks of all arcs, out of older ones that are theirs where they are not touched.
-pub(crate) fn blocks_after(
+pub(crate) fn blocks_after<R: Roads>(
     alloc: Global,
     old: &[Arc<Block>],
-    arcs: &ChunkedArray<RoadArc>,
-    index: &[Vec<u32>],
+    roads: &R,
+    index: &[Arc<Vec<u32>>],
     delta: u32,
     touched: &[bool],
 ) -> Result<Vec<Arc<Block>>, AllocError>
-    requires few { length arcs.now ≤ 2 ^ 26 }
-    requires index { (block : ℕ) → block < length index.now → slice_index_or (map (λ places. places.items) index.now) block [] ≡ places_of_block block 0 arcs.now }
+    requires few { length (R.network roads.now).arcs ≤ 2 ^ 26 }
+    requires index { (block : ℕ) → block < length index.now → slice_index_or (map (λ places. places.value.items) index.now) block [] ≡ places_of_block block 0 (R.network roads.now).arcs }
     requires blocks { length index.now ≡ length old.now }
     requires flags { length touched.now ≡ length old.now }
-    requires untouched { (block : ℕ) → block < length old.now → slice_index_or touched.now block true ≡ false → AreBlockParts (arcs_of_block block arcs.now) delta (slice_index_or (map (λ block. block_parts block.value.starts block.value.legs.items) old.now) block []) }
+    requires untouched { (block : ℕ) → block < length old.now → slice_index_or touched.now block true ≡ false → AreBlockParts (arcs_of_block block (R.network roads.now).arcs) delta (slice_index_or (map (λ block. block_parts block.value.starts block.value.legs.items) old.now) block []) }
     ensures count { IfOk result (λ blocks. length blocks.items ≡ length old.now) }
-    ensures each { IfOk result (λ blocks. AreBlocksOf arcs.now delta (map (λ block. block_parts block.value.starts block.value.legs.items) blocks.items)) }
+    ensures each { IfOk result (λ blocks. AreBlocksOf (R.network roads.now).arcs delta (map (λ block. block_parts block.value.starts block.value.legs.items) blocks.items)) }
 {
     let mut blocks = Vec::with_capacity(alloc, old.len())?;
     let mut found = Vec::new(alloc);
@@ -151,7 +152,7 @@ pub(crate) fn blocks_after(
         let next = next_block(
             alloc,
             &old[block],
-            arcs,
+            roads,
             places,
             delta,
             is_touched,

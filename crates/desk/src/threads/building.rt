@@ -6,6 +6,7 @@ use crate::lock::shared::Shared;
 use crate::lock::turns::BuilderTurn;
 use crate::served::Served;
 use crate::threads::attempts::{Attempt, Misses};
+use crate::threads::earlier::Earlier;
 use crate::threads::last::Unbuilt;
 use crate::threads::plans::Plan;
 use disk::Disk;
@@ -50,14 +51,18 @@ where
         }
     }
 
-    /// Builds the view of a work and shows it, or gives its task up. The work is dropped after the lock is released, once its view is shown. It has the
-    /// earlier view: so nobody drops that under the lock, and it exists no longer than readers hold it.
-    fn carry_out(&self, rt: &S::Runtime, plan: &Plan, work: Work) -> Attempt
+    /// Builds the view of a work and shows it, or gives its task up. The view that was shown before is among the earlier ones then, once the lock is released.
+    fn carry_out(&self, rt: &S::Runtime, plan: &Plan, work: Work, earlier: &mut Earlier) -> Attempt
         requires { work.origin ≡ S.Naming.origin }
     {
         let version = work.version();
         let unbuilt = match plan.build(rt, &self.gate, &self.last, &work) {
-            Ok(view) => return self.show(rt, version, work.built(view)),
+            Ok(view) => {
+                let attempt = self.show(rt, version, work.built(view));
+                earlier.keep(work.into_shown());
+                earlier.let_go();
+                return attempt;
+            }
             Err(unbuilt) => unbuilt,
         };
         if let Some(office) = &mut self.lock(rt).office {
@@ -70,7 +75,7 @@ where
     }
 
     /// Takes a work, unless the gate delays it, and carries it out.
-    fn build(&self, rt: &S::Runtime, plan: &Plan, durable: u64) -> Attempt {
+    fn build(&self, rt: &S::Runtime, plan: &Plan, durable: u64, earlier: &mut Earlier) -> Attempt {
         if !self.gate.before_task(durable) {
             return Attempt::NoMemory;
         }
@@ -79,7 +84,7 @@ where
             None => return Attempt::Done,
         };
         match taken {
-            Ok(Some(work)) => self.carry_out(rt, plan, work),
+            Ok(Some(work)) => self.carry_out(rt, plan, work, earlier),
             Ok(None) => Attempt::Done,
             Err(_) => Attempt::NoMemory,
         }
@@ -93,11 +98,14 @@ where
     S::Runtime: Sync,
 {
     let mut misses = Misses::none();
+    let mut earlier = Earlier::none(plan.alloc);
     for _ in rt.forever() {
-        let attempt = match shared.next_builder_turn(rt) {
+        let turn = shared.next_builder_turn(rt);
+        earlier.let_go();
+        let attempt = match turn {
             BuilderTurn::End => break,
             BuilderTurn::Rest => Attempt::Done,
-            BuilderTurn::Build { durable } => shared.build(rt, plan, durable),
+            BuilderTurn::Build { durable } => shared.build(rt, plan, durable, &mut earlier),
         };
         if !misses.goes_on(attempt) {
             shared.gate.builder_gave_up();

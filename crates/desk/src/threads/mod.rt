@@ -2,6 +2,7 @@
 
 pub(crate) mod attempts;
 pub(crate) mod building;
+mod earlier;
 pub(crate) mod flushing;
 pub(crate) mod last;
 mod leaves;

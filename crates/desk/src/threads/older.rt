@@ -29,7 +29,8 @@ pub(crate) struct Grouped {
     pub(crate) index: Option<Arc<ArcIndex>>,
 }
 
-/// The index of a network's arcs: that of an older view, if it has one and no arc was laid since; otherwise it is made anew. The only error is lack of memory.
+/// The index of a network's arcs: that of an older view, if it has one, with the arcs that were laid since; otherwise it is made anew. The only error is lack
+/// of memory.
 fn index_after(
     alloc: Global,
     old: Older<'_>,
@@ -38,12 +39,16 @@ fn index_after(
     requires { IsOlder network.now old }
     ensures { IfOk result (λ index. AreArcsByBlock network.now.nodes network.now.arcs index.value) }
 {
-    if old.view.network().arcs().len() == network.arcs().len()
-        && let Some(index) = old.view.index()
-    {
-        return Ok(index);
-    }
-    let index = ArcIndex::build(alloc, network)?;
+    let older = old.view.network();
+    let index = match old.view.index() {
+        Some(index) => {
+            if older.arcs().len() == network.arcs().len() {
+                return Ok(index);
+            }
+            index.after(alloc, older, network)?
+        }
+        None => ArcIndex::build(alloc, network)?,
+    };
     match Arc::new(alloc, index) {
         Ok(index) => Ok(index),
         Err(_) => Err(OutOfMemory),

@@ -16,7 +16,7 @@ use crate::threads::row_workers::{RowJob, landmark_rows};
 use disk::Disk;
 use office::Work;
 use roadnet::OutOfMemory;
-use rows::{Row, View, numbered_back};
+use rows::{Row, View, numbered_back, numbered_back_after};
 use shared_network::SharedNetwork;
 use snapshot::{ArcIndex, Snapshot};
 use std::alloc::Global;
@@ -38,8 +38,8 @@ pub(crate) struct Plan {
     ghost few: { workers ≤ 64 },
 }
 
-/// All arcs of a network the other way round, with their numbers: those of an older view, if no arc was laid since; otherwise they are grouped anew. Nothing
-/// if no older view is given, or if there is no memory.
+/// All arcs of a network the other way round, with their numbers: those of an older view, if it has them, with the arcs that were laid since; otherwise they
+/// are grouped anew. Nothing if no older view is given, or if there is no memory.
 fn back_after(
     alloc: Global,
     old: Option<Older<'_>>,
@@ -49,15 +49,17 @@ fn back_after(
     ensures { ForSome result (λ back. LeadsBack network.now back.value) }
 {
     let old = old?.view;
-    if old.network().arcs().len() == network.arcs().len() {
-        if let Some(back) = old.back() {
-            return Some(back);
+    let older = old.network();
+    let back = match old.back() {
+        Some(back) => {
+            if older.arcs().len() == network.arcs().len() {
+                return Some(back);
+            }
+            numbered_back_after(alloc, &back, older, network)
         }
-    }
-    match numbered_back(alloc, network) {
-        Ok(back) => Arc::new(alloc, back).ok(),
-        Err(_) => None,
-    }
+        None => numbered_back(alloc, network),
+    };
+    Arc::new(alloc, back.ok()?).ok()
 }
 
 /// The legs of a network's snapshot the other way round, lent.

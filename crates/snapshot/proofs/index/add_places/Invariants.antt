@@ -3,7 +3,7 @@ use Rattle.snapshot.specs.Blocks.{places_of_block}
 use Rattle.snapshot.proofs.index.add_places.Given as goal
 
 abbrev pub invariant-loop-place : goal.invariant-loop-place
-invariant-loop-place l = record {
+invariant-loop-place g l = record {
   blocks : length l.lists ≡ length l.fn.lists;
-  added : (block : ℕ) → block < length l.lists → get_or (map (λ list. list.items) l.lists) block [] ≡ places_of_block block 0 (take l.place l.arcs);
+  added : (block : ℕ) → block < length l.lists → get_or (map (λ list. list.value.items) l.lists) block [] ≡ places_of_block block 0 (take l.place (g.R.Roads.network l.roads).arcs);
 }

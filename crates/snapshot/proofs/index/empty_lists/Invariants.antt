@@ -1,5 +1,5 @@
 use Rattle.std.proofs.Common.{◌≡◌, [], map, replicate}
 use Rattle.snapshot.proofs.index.empty_lists.Given as goal
 
-abbrev pub invariant-loop-made : goal.invariant-loop-made
-invariant-loop-made l = map (λ list. list.items) l.lists.items ≡ replicate l._made []
+abbrev pub invariant-loop-count : goal.invariant-loop-count
+invariant-loop-count l = map (λ list. list.value.items) l.lists.items ≡ replicate l.count-index []

@@ -3,7 +3,7 @@ use Rattle.snapshot.specs.Blocks.{AreBlocksOf, block_parts}
 use Rattle.snapshot.proofs.regrouping.all_blocks.Given as goal
 
 abbrev pub invariant-loop-places : goal.invariant-loop-places
-invariant-loop-places l = record {
+invariant-loop-places g l = record {
   count : length l.blocks.items ≡ l.places-index;
-  each : AreBlocksOf l.arcs l.delta (map (λ block. block_parts block.value.starts block.value.legs.items) l.blocks.items);
+  each : AreBlocksOf (g.R.Roads.network l.roads).arcs l.delta (map (λ block. block_parts block.value.starts block.value.legs.items) l.blocks.items);
 }

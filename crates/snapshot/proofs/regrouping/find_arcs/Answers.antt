@@ -5,11 +5,11 @@ use Rattle.snapshot.specs.Blocks.{within_block}
 use Rattle.snapshot.proofs.regrouping.find_arcs.Goals as goal
 
 pub loop-place-preserved : goal.loop-place-preserved
-loop-place-preserved c d =
-    let here : c.within_block.result ≡ within_block (get_or c.args.arcs.now (get_or c.args.places.now c.loop-place.place-index 0) d) = c.within_block.ensures ∙ ap within_block (sym (c.get.ensures.item d)) in
+loop-place-preserved g c d =
+    let here : c.within_block.result ≡ within_block (get_or (g.R.Roads.network c.args.roads.now).arcs (get_or c.args.places.now c.loop-place.place-index 0) d) = c.within_block.ensures ∙ ap within_block (sym (c.arc_at_place.ensures d)) in
     c.in_ok-push.ensures.items
     ∙ (ap₂ (λ (xs : List RoadArc) (x : RoadArc). xs ++ x ∷ []) (c.loop-place.invariant d) here
-    ∙ sym (map_more (λ place. within_block (get_or c.args.arcs.now place d)) c.args.places.now c.loop-place.place-index 0 (omega (arith, c.loop-place-test.true))))
+    ∙ sym (map_more (λ place. within_block (get_or (g.R.Roads.network c.args.roads.now).arcs place d)) c.args.places.now c.loop-place.place-index 0 (omega (arith, c.loop-place-test.true))))
 
 pub returns : goal.returns
-returns c d = c.loop-place.invariant d ∙ ap (map (λ place. within_block (get_or c.args.arcs.now place d))) (take_all c.loop-place.place-index c.args.places.now (omega (arith, c.loop-place-test.false)))
+returns g c d = c.loop-place.invariant d ∙ ap (map (λ place. within_block (get_or (g.R.Roads.network c.args.roads.now).arcs place d))) (take_all c.loop-place.place-index c.args.places.now (omega (arith, c.loop-place-test.false)))

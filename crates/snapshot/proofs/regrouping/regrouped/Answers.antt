@@ -12,23 +12,23 @@ abbrev no_arc : RoadArc
 no_arc = record { tail = 0; head = 0; length = 0; opened = false }
 
 pub find_arcs-requires : goal.find_arcs-requires
-find_arcs-requires c = let (block, is) = c.requires.places in subst (All (λ k. k < length c.args.arcs.now)) (sym is) (places-below block 0 (length c.args.arcs.now) c.args.arcs.now (omega arith))
+find_arcs-requires g c = let (block, is) = c.requires.places in subst (All (λ k. k < length (g.R.Roads.network c.args.roads.now).arcs)) (sym is) (places-below block 0 (length (g.R.Roads.network c.args.roads.now).arcs) (g.R.Roads.network c.args.roads.now).arcs (omega arith))
 
 pub group-requires-clause-few : goal.group-requires-clause-few
-group-requires-clause-few c =
+group-requires-clause-few g c =
     let (block, is) = c.requires.places in
-    let long : length c.find_arcs.new.found.items ≡ length c.args.places.now = ap length (c.in_ok-find_arcs.ensures no_arc) ∙ length-map c.args.places.now (λ place. within_block (get_or c.args.arcs.now place no_arc)) in
-    omega (arith, long, ap length is, length-places block 0 c.args.arcs.now, ap length c.deref.ensures.value, c.requires.few)
+    let long : length c.find_arcs.new.found.items ≡ length c.args.places.now = ap length (c.in_ok-find_arcs.ensures no_arc) ∙ length-map c.args.places.now (λ place. within_block (get_or (g.R.Roads.network c.args.roads.now).arcs place no_arc)) in
+    omega (arith, long, ap length is, length-places block 0 (g.R.Roads.network c.args.roads.now).arcs, ap length c.deref.ensures.value, c.requires.few)
 
 pub group-requires-clause-tails : goal.group-requires-clause-tails
-group-requires-clause-tails c =
+group-requires-clause-tails g c =
     rw (c.deref.ensures.value, c.in_ok-find_arcs.ensures no_arc)
-    (All-map (λ (a : RoadArc). a.tail ≤ 1023) (λ place. within_block (get_or c.args.arcs.now place no_arc)) c.args.places.now (λ k d h. omega arith))
+    (All-map (λ (a : RoadArc). a.tail ≤ 1023) (λ place. within_block (get_or (g.R.Roads.network c.args.roads.now).arcs place no_arc)) c.args.places.now (λ k d h. omega arith))
 
 pub returns : goal.returns
-returns c block is =
-    let found : c.deref.result.now ≡ arcs_of_block block c.args.arcs.now = c.deref.ensures.value ∙ (c.in_ok-find_arcs.ensures no_arc ∙ (ap (map (λ place. within_block (get_or c.args.arcs.now place no_arc))) is ∙ arcs_at_places c.args.arcs.now block 0 c.args.arcs.now no_arc (λ k h.
+returns g c block is =
+    let found : c.deref.result.now ≡ arcs_of_block block (g.R.Roads.network c.args.roads.now).arcs = c.deref.ensures.value ∙ (c.in_ok-find_arcs.ensures no_arc ∙ (ap (map (λ place. within_block (get_or (g.R.Roads.network c.args.roads.now).arcs place no_arc))) is ∙ arcs_at_places (g.R.Roads.network c.args.roads.now).arcs block 0 (g.R.Roads.network c.args.roads.now).arcs no_arc (λ k h.
     let e : 0 + k ≡ k = omega arith in
-    ap (λ n. get_or c.args.arcs.now n no_arc) e))) in
+    ap (λ n. get_or (g.R.Roads.network c.args.roads.now).arcs n no_arc) e))) in
     subst (λ (arcs : List RoadArc). AreBlockParts arcs c.args.delta (block_parts c.in_ok-new.field-0.value.starts c.in_ok-new.field-0.value.legs.items)) found
     (subst (λ (b : Block). AreBlockParts c.deref.result.now c.args.delta (block_parts b.starts b.legs.items)) (sym c.in_ok-new.ensures.ok) c.in_ok-block.ensures)

@@ -1,4 +1,4 @@
-use Rattle.std.proofs.Common.{◌≡◌, ◌∙◌, ◌+◌, ◌*◌, ◌/◌, ◌%◌, ◌≤◌, ◌++◌, [], ◌∷◌, length, take, sym, ap, arith}
+use Rattle.std.proofs.Common.{◌≡◌, ◌∙◌, ◌/◌, length, take, sym, ap, arith}
 use Rattle.std.proofs.lemmas.List.{length_push}
 use Rattle.chunked.proofs.Items.{length-items, cut-fits, append_items}
 use Rattle.chunked.proofs.arrays.ChunkedArray.append.Goals as goal

@@ -11,5 +11,5 @@ blocks_after-requires-clause-untouched c =
     let (old, was, keeps, only) = c.requires.before in
     let seen : IsSnapshotOf old (record { nodes = s.nodes; delta = s.delta; greatest = s.greatest; parts = parts_of s.joined (flat_map parts_in s.blocks.value.items) }) = subst (IsSnapshotOf old) (sym c.self.view_is) was in
     let whole : IsSnapshotOf old (record { nodes = s.nodes; delta = s.delta; greatest = s.greatest; parts = flat_map parts_in s.blocks.value.items }) = subst (λ (b : Bool). IsSnapshotOf old (record { nodes = s.nodes; delta = s.delta; greatest = s.greatest; parts = parts_of b (flat_map parts_in s.blocks.value.items) })) c.if-self.false seen in
-    rw (c.deref-4.ensures.value, c.deref-3.ensures, c.deref-6.ensures.value, c.arcs-arcs.ensures.value)
+    rw (c.deref-4.ensures.value, c.deref-3.ensures, c.deref-6.ensures.value)
     (still_groups old c.args.network.now c.args.changed.now keeps only s.delta s.blocks.value.items whole.legs c.in_ok-touched.touched.items (rw c.arcs-arcs.ensures.value at c.in_ok-touched.ensures.touched))

@@ -1,0 +1,12 @@
+use Rattle.std.proofs.Common.{◌≡◌, ◌≤◌, ◌*◌, length, take}
+use Rattle.std.specs.List.{All, flat_map}
+use Rattle.snapshot.specs.Appended.{AreLight, HasMore}
+use Rattle.snapshot.proofs.Shared.{parts_in}
+use Rattle.snapshot.proofs.appending.with_legs.Given as goal
+
+abbrev pub invariant-loop-arc : goal.invariant-loop-arc
+invariant-loop-arc l = record {
+  count : length l.more.items ≡ length l.blocks.items;
+  short : All (λ arc. arc.length ≤ l.delta) (take l.arc-index l.arcs);
+  legs : AreLight l.delta (flat_map parts_in l.blocks.items) → HasMore (length l.blocks.items * 1024) (take l.arc-index l.arcs) l.delta (flat_map parts_in l.blocks.items) (flat_map parts_in l.more.items);
+}

@@ -1,8 +1,8 @@
 -- Entries in lists and in a bag: after a value is lowered, after a bucket is taken, and after the bag is dealt.
-use Rattle.std.proofs.Common.{◌≡◌, ◌≢◌, ℕ, zero, suc, ◌+◌, ◌-◌, ◌*◌, ◌/◌, ◌%◌, ◌<◌, ◌≤◌, ◌⊎◌, ◌++◌, ◌==◌, ◌&&◌, ◌||◌, ◌↔◌, min, Bool, true, false, cond, not, List, [], ◌∷◌, length, map, set, take, get_or, nat_cmp, Contains, Option, MatchOption, Some, None, Result, Ok, Err, OnOk, OnErr, refl, sym, ap, subst, ◌∙◌, inl, inr, arith, le_trans, div-mul-le_self}
+use Rattle.std.proofs.Common.{◌≡◌, ◌≢◌, ℕ, zero, suc, ◌+◌, ◌/◌, ◌%◌, ◌<◌, ◌≤◌, ◌⊎◌, ◌++◌, ◌||◌, min, Bool, true, false, cond, not, List, [], ◌∷◌, length, set, take, get_or, nat_cmp, Contains, Option, MatchOption, Some, None, Result, Ok, Err, OnOk, OnErr, refl, sym, ap, subst, ◌∙◌, inl, inr, arith, le_trans, div-mul-le_self}
 use Rattle.std.specs.Option.{option_map_or}
 use Rattle.std.specs.List.{list_any}
-use Rattle.std.specs.FinMap.{get, insert, empty, get-empty, keys}
+use Rattle.std.specs.FinMap.{get, insert, empty, get-empty}
 use Rattle.std.proofs.lemmas.Bool.{cases_eq, cases_lt, or_left, or_right}
 use Rattle.std.proofs.lemmas.List.{get_or-set_same, get_or-set_other}
 use Rattle.std.proofs.lemmas.List.Elements.{Contains-get_or, Contains-push_cases, Contains-push, Contains-append_left}
@@ -11,7 +11,7 @@ use Rattle.std.proofs.lemmas.List.{take_more, get_or_past}
 use Rattle.std.proofs.lemmas.Nat.{le-div}
 use Rattle.std.proofs.Math.Nat.{div-le_self}
 use Rattle.relax.specs.Values.{value_at}
-use Rattle.buckets.specs.Queue.{Entries, bucket, outside}
+use Rattle.buckets.specs.Queue.{Entries, outside}
 use Rattle.buckets.proofs.Tables.{same_entries, get-insert_same, get-insert_other}
 use Rattle.buckets.proofs.Taken.{get_kept, value_in, empty_from_nothing}
 use Rattle.frontier.specs.Entries.{EntryLists, entries_at, IsAdded}

@@ -1,16 +1,13 @@
 -- Lists of entries after one is added, and after one list is taken.
-use Rattle.std.proofs.Common.{◌≡◌, ◌≢◌, ◌^◌, ℕ, zero, suc, ◌+◌, ◌*◌, ◌/◌, ◌%◌, ◌<◌, ◌≤◌, ◌⊎◌, ◌++◌, List, [], ◌∷◌, length, set, get_or, Contains, Option, Some, None, sum_by, refl, sym, ap, subst, ◌∙◌, inl, inr, arith, length-append, mod-lt}
+use Rattle.std.proofs.Common.{◌≡◌, ◌≢◌, ◌^◌, ℕ, zero, suc, ◌+◌, ◌*◌, ◌/◌, ◌%◌, ◌<◌, ◌≤◌, ◌⊎◌, ◌++◌, List, [], ◌∷◌, length, set, get_or, Contains, Option, sum_by, refl, sym, ap, subst, ◌∙◌, inl, inr, arith, length-append}
 use Rattle.std.specs.Option.{option_map_or}
-use Rattle.std.specs.List.{slice_get}
 use Rattle.std.specs.Global.{Vec}
 use Rattle.std.proofs.Math.Nat.{div-le_self}
 use Rattle.std.proofs.lemmas.Bool.{cases_eq, cases_lt}
-use Rattle.std.proofs.lemmas.List.{get_or_past}
 use Rattle.std.proofs.lemmas.List.Elements.{Contains-push_cases}
 use Rattle.std.proofs.lemmas.List.Sums.{sum_by-set}
 use Rattle.std.proofs.lemmas.Option.{slice_get-get_or, slice_get_past}
 use Rattle.buckets.specs.Places.{place_bit}
-use Rattle.buckets.specs.Rings.{IsBucketWithin}
 use Rattle.buckets.proofs.Ringed.{slice_get-set_same, slice_get-set_other, mod_apart}
 use Rattle.frontier.specs.Entries.{EntryLists, entries_at, entry_count, AreInPlace, AreMarked, IsAdded, IsInPlace, TakesFirst}
 

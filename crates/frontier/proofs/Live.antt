@@ -1,24 +1,23 @@
 -- The nodes that have live entries, after a value is lowered, and after a list is taken.
-use Rattle.std.proofs.Common.{◌≡◌, ◌≢◌, ℕ, zero, suc, ◌+◌, ◌*◌, ◌/◌, ◌%◌, ◌<◌, ◌≤◌, ◌⊎◌, ◌++◌, ◌==◌, ◌&&◌, ◌||◌, ◌↔◌, nat_le, Bool, true, false, cond, not, List, [], ◌∷◌, length, map, set, get_or, Contains, Option, Some, None, nat_cmp, eqb, refl, sym, ap, subst, ◌∙◌, inl, inr, arith, eq-eqb, eqb-true, ne_eqb, le-leb, leb-true, is_some, filter}
+use Rattle.std.proofs.Common.{◌≡◌, ◌≢◌, ℕ, zero, suc, ◌+◌, ◌/◌, ◌%◌, ◌<◌, ◌≤◌, ◌++◌, ◌==◌, ◌&&◌, nat_le, Bool, true, false, cond, not, List, [], ◌∷◌, length, map, get_or, Contains, Option, Some, None, nat_cmp, eqb, refl, sym, ap, subst, ◌∙◌, inl, inr, arith, eq-eqb, eqb-true, ne_eqb, le-leb, leb-true, filter}
 use Rattle.std.specs.Option.{option_map_or}
 use Rattle.std.specs.List.{list_any, AllByRecursion, IsDistinct}
-use Rattle.std.specs.FinMap.{get, insert, empty, get-empty, find, get-from_entries, keys, retain_keys}
+use Rattle.std.specs.FinMap.{get, empty, find, get-from_entries, keys}
 use Rattle.std.specs.Cmp.{nat_cmp_total, nat_eq_equiv}
 use Rattle.std.proofs.lemmas.Bool.{cases_eq, cases_lt, or_left, or_right}
-use Rattle.std.proofs.lemmas.List.{get_or-set_same, get_or-set_other, get_or_past}
-use Rattle.std.proofs.lemmas.List.Elements.{Contains-push_cases, Contains-push, Contains-append_left}
+use Rattle.std.proofs.lemmas.List.{get_or_past}
+use Rattle.std.proofs.lemmas.List.Elements.{Contains-push_cases}
 use Rattle.std.proofs.lemmas.Map.Views.{Contains-from_any, list_any-from_Contains}
 use Rattle.std.proofs.lemmas.Option.{same_Some}
 use Rattle.relax.specs.Values.{value_at}
-use Rattle.buckets.specs.Lists.{has_node}
 use Rattle.buckets.specs.Queue.{Entries, bucket, outside, is_in_bucket}
 use Rattle.buckets.proofs.Ringed.{mod_apart}
-use Rattle.buckets.proofs.Tables.{tied, same_entries, get-insert_same, get-insert_other}
+use Rattle.buckets.proofs.Tables.{tied, same_entries}
 use Rattle.buckets.proofs.Taken.{get_kept, has_node-bucket, left_outside, value_in, without-bucket, empty_from_nothing}
-use Rattle.frontier.specs.Entries.{EntryLists, entries_at, AreInPlace, IsAdded, TakesFirst}
+use Rattle.frontier.specs.Entries.{EntryLists, entries_at, AreInPlace, TakesFirst}
 use Rattle.frontier.specs.Frontier.{TakesAny}
-use Rattle.frontier.specs.Live.{AreEntriesOf, are_once, is_at_most, is_live, is_queued, is_same, live_nodes, queued, values_from, values_of}
-use Rattle.frontier.proofs.EntryLists.{Contains-none, member_added}
+use Rattle.frontier.specs.Live.{AreEntriesOf, are_once, is_live, is_queued, is_same, live_nodes, queued, values_from, values_of}
+use Rattle.frontier.proofs.EntryLists.{Contains-none}
 
 -- ---- tests
 

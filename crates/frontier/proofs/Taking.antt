@@ -1,5 +1,5 @@
 -- A taking in ascending order is one in any order.
-use Rattle.std.proofs.Common.{◌≡◌, ◌<◌, ◌≤◌, ℕ, List, length, get_or, Contains, Option, MatchOption, None, Some, Result, Ok, Err, IfOk, eqb, ne_eqb, sym, subst, arith}
+use Rattle.std.proofs.Common.{◌≡◌, ◌<◌, ℕ, List, get_or, Contains, Option, MatchOption, None, Some, Result, Ok, Err, IfOk, eqb, ne_eqb, sym, subst, arith}
 use Rattle.std.specs.FinMap.{keys, empty}
 use Rattle.std.proofs.lemmas.Map.Keys.{IsDistinct-from_apart, below_from_sorted}
 use Rattle.buckets.specs.Queue.{Entries, TakesLeast, bucket}

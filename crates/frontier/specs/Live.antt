@@ -6,7 +6,7 @@
 --     AreEntriesOf tentative lists      no entry is below the tentative value of its node, and no list has an entry twice
 --     all_queued width lists bag tentative      the nodes that have a live entry in these lists or in a bag, each with its value, as a map
 --     AreKept tentative width bound lists bag   entries of buckets below the bound stand in lists, all others in the bag
-use Rattle.std.specs.Prelude.{◌≡◌, ℕ, suc, ◌≤◌, ◌/◌, ◌%◌, ◌==◌, ◌&&◌, ◌||◌, ◌<◌, ◌⊎◌, ◌^◌, Bool, true, false, take, not, nat_le, List, [], ◌∷◌, map, length, Contains, Option, MatchOption, None, Some}
+use Rattle.std.specs.Prelude.{◌≡◌, ℕ, suc, ◌≤◌, ◌/◌, ◌%◌, ◌==◌, ◌&&◌, ◌||◌, ◌<◌, ◌⊎◌, Bool, true, false, take, not, nat_le, List, [], ◌∷◌, map, length, Contains, Option, MatchOption, None, Some}
 use Rattle.std.specs.Option.{option_map_or}
 use Rattle.std.specs.List.{list_any, filter}
 use Rattle.std.specs.FinMap as finite

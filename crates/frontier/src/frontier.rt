@@ -1,4 +1,4 @@
-ghost use Rattle.std.specs.Prelude.{◌≡◌, ℕ, ◌≤◌, ◌<◌, ◌/◌, ◌+◌, ◌^◌, List, [], All, Option, Some, IfOk, IsSome, MatchBool, MatchOption, length, slice_set};
+ghost use Rattle.std.specs.Prelude.{◌≡◌, ℕ, ◌≤◌, ◌<◌, ◌/◌, ◌+◌, ◌^◌, List, [], All, Option, Some, IfOk, OnErr, IsSome, MatchBool, MatchOption, length, slice_set};
 ghost use Rattle.std.specs.FinMap as map;
 ghost use Rattle.relax.specs.Values.{value_at, value_or};
 ghost use Rattle.relax.specs.Requests.{requests_of};
@@ -30,6 +30,9 @@ pub trait Frontier {
     /// The values that fit now.
     ghost accepts: { Self → ℕ → Type 0 };
 
+    /// It has noted that it has no words for this value, if it has none.
+    ghost notes: { Self → ℕ → Type 0 };
+
     /// How many values a bucket spans, at least 1.
     fn delta(&self) -> u32
         ensures value { result ≡ width self.now }
@@ -55,7 +58,7 @@ pub trait Frontier {
         ensures requests { IfOk result (λ list. list.items ≡ requests_of snapshot.now nodes.now (tentative self.now) part) };
 
     /// Lowers a node's value to the given one, if that is below `top` and the present value, and queues the node. Returns whether it did. Its errors are lack of
-    /// memory, and a value that the frontier has no words for, if it has such values.
+    /// memory, and a value that the frontier has no words for, if it has such values. Of the latter it takes note.
     fn lower(&mut self, top: u64, node: u32, value: u64) -> Result<bool, AllocError>
         requires node { (1 ≤ node) × (node < length (tentative self.old)) }
         requires fits { accepts self.old value }
@@ -63,6 +66,7 @@ pub trait Frontier {
         ensures lowered { IfOk result (λ lowers. MatchBool lowers (value < value_or top (tentative self.old) node) (value_or top (tentative self.old) node ≤ value)) }
         ensures tentative { IfOk result (λ lowers. MatchBool lowers (tentative self.new ≡ slice_set (tentative self.old) node (Some value)) (tentative self.new ≡ tentative self.old)) }
         ensures queued { IfOk result (λ lowers. MatchBool lowers (entries self.new ≡ map.insert (entries self.old) node value) (entries self.new ≡ entries self.old)) }
+        ensures refused { OnErr result (notes self.new value) }
         ensures accepts { (v : ℕ) → accepts self.old v → accepts self.new v }
         ensures width { width self.new ≡ width self.old }
         ensures span { span self.new ≡ span self.old };

@@ -329,6 +329,8 @@ impl Frontier for LazyRing {
 
     ghost accepts = { λ q value. q.ring.last ≤ value / q.ring.delta };
 
+    ghost notes = { λ _ _. Unit {0} };
+
     /// How many values a bucket spans.
     fn delta(&self) -> u32 {
         self.ring.delta()

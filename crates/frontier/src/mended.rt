@@ -1,6 +1,7 @@
 //! A frontier over the words of a row that is repaired.
 
-ghost use Rattle.std.specs.Prelude.{◌≡◌};
+ghost use Rattle.std.specs.Prelude.{◌≡◌, ◌≤◌, IsTrue};
+ghost use Rattle.relax.specs.Values.{no_short_value};
 
 use crate::frontier::Frontier;
 use crate::lower::is_lower;
@@ -29,6 +30,8 @@ impl<Q: BucketQueue> Frontier for Mended<Q> {
     ghost span = { λ q. Q.span q.buckets };
 
     ghost accepts = { λ q. Q.accepts q.buckets };
+
+    ghost notes = { λ q value. no_short_value ≤ value → IsTrue q.is_beyond };
 
     /// How many values a bucket of the queue spans.
     #[inline(always)]

@@ -28,6 +28,8 @@ impl<Q: BucketQueue> Frontier for Queued<Q> {
 
     ghost accepts = { λ q. Q.accepts q.buckets };
 
+    ghost notes = { λ _ _. Unit {0} };
+
     /// How many values a bucket of the queue spans.
     #[inline(always)]
     fn delta(&self) -> u32 {

@@ -1,8 +1,8 @@
-use Rattle.std.proofs.Common.{◌≡◌, ◌≤◌, ◌<◌, ◌+◌, ◌/◌, [], ℕ, List, Contains, Option, length, min, get_or, sym, ap, subst, ◌∙◌, arith}
+use Rattle.std.proofs.Common.{◌≡◌, ◌≤◌, ◌<◌, ◌+◌, ◌/◌, ℕ, List, Contains, length, min, get_or, sym, ap, subst, ◌∙◌}
 use Rattle.std.specs.FinMap.{empty}
 use Rattle.std.specs.Global.{Vec}
 use Rattle.std.proofs.lemmas.List.Elements.{Contains-get_or}
-use Rattle.frontier.specs.Live.{AreDead, AreEntriesDealt, AreEntriesKept, IsLeastLive, all_queued, queued}
+use Rattle.frontier.specs.Live.{AreDead, AreEntriesDealt, AreEntriesKept, IsLeastLive, queued}
 use Rattle.frontier.proofs.Bags.{AreKept-cleared, all_queued-dead, all_queued-dealt, all_queued-empty, bag_nodes, least_below, least_from, queued-least}
 use Rattle.frontier.proofs.lazy.deal.Goals as goal
 

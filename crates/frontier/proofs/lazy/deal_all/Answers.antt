@@ -1,6 +1,5 @@
-use Rattle.std.proofs.Common.{◌≡◌, ◌≤◌, ◌<◌, ◌+◌, ◌/◌, ℕ, List, Some, Option, length, get_or, refl, sym, subst, ◌∙◌, arith}
+use Rattle.std.proofs.Common.{◌≡◌, ◌≤◌, ◌+◌, ◌/◌, ℕ, get_or, refl, sym, subst, ◌∙◌, arith}
 use Rattle.std.proofs.lemmas.List.Elements.{Contains-get_or}
-use Rattle.relax.specs.Values.{value_at}
 use Rattle.frontier.specs.Live.{AreEntriesDealt, AreEntriesKept}
 use Rattle.frontier.proofs.Bags.{AreDealt-none, AreDealt-step, AreKept-none, IsNowhere-next}
 use Rattle.frontier.proofs.Live.{has_live}

@@ -1,4 +1,4 @@
-use Rattle.std.proofs.Common.{◌≡◌, ◌<◌, ℕ, List, length, take, sym, subst, arith}
+use Rattle.std.proofs.Common.{◌<◌, ℕ, List, length, take, sym, subst, arith}
 use Rattle.std.proofs.lemmas.List.{take_more}
 use Rattle.frontier.specs.Live.{IsLeastOf}
 use Rattle.frontier.proofs.lazy.least_live.Goals as goal

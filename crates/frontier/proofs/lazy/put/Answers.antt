@@ -1,4 +1,4 @@
-use Rattle.std.proofs.Common.{◌≡◌, ◌≤◌, ◌<◌, ◌/◌, ◌%◌, ◌++◌, ◌∷◌, [], ℕ, List, Option, length, subst, ap, ◌∙◌}
+use Rattle.std.proofs.Common.{◌≡◌, ◌<◌, ◌/◌, ◌%◌, ℕ, List, Option, length}
 use Rattle.frontier.specs.Entries.{IsAdded, entries_at}
 use Rattle.frontier.specs.Live.{AreEntriesKept, IsDealt}
 use Rattle.frontier.proofs.Bags.{AreKept-bagged, AreKept-listed, AreKept-same, IsDealt-bagged, IsDealt-listed, OnOk-map, on_result}

@@ -1,5 +1,4 @@
-use Rattle.std.proofs.Common.{◌≡◌, ◌≤◌, ◌/◌, ◌%◌, length, sym, ap, subst, ◌∙◌}
-use Rattle.frontier.specs.Entries.{IsInPlace}
+use Rattle.std.proofs.Common.{sym}
 use Rattle.frontier.proofs.EntryLists.{AreInPlace-added, AreInPlace-same, AreMarked-added, AreMarked-same}
 use Rattle.frontier.proofs.entries.EntryRing.add.Goals as goal
 

@@ -1,4 +1,4 @@
-use Rattle.std.proofs.Common.{length, refl, sym}
+use Rattle.std.proofs.Common.{refl}
 use Rattle.frontier.proofs.EntryLists.{AreInPlace-none}
 use Rattle.frontier.proofs.entries.EntryRing.begin_at.Goals as goal
 

@@ -1,6 +1,5 @@
-use Rattle.std.proofs.Common.{◌≡◌, ◌≤◌, ◌<◌, ◌+◌, ◌*◌, ◌%◌, ◌^◌, ℕ, length, set, sym, ap, subst, ◌∙◌, arith, length-set}
+use Rattle.std.proofs.Common.{◌≡◌, ◌≤◌, ◌<◌, ◌+◌, ◌%◌, ◌^◌, ℕ, length, set, ap, ◌∙◌, arith, length-set}
 use Rattle.buckets.specs.Places.{place_bit, IsLeastFrom}
-use Rattle.frontier.specs.Entries.{AreInPlace, AreMarked, EntryLists, TakesFirst, entry_count}
 use Rattle.frontier.proofs.EntryLists.{AreInPlace-taken, AreMarked-taken, TakesFirst-exchanged, fewer_entries, IsFound, found, marked_within}
 use Rattle.frontier.proofs.entries.EntryRing.take.Goals as goal
 

@@ -1,4 +1,4 @@
-use Rattle.std.proofs.Common.{◌≡◌, ◌≤◌, [], length, sym, ◌∙◌, eqb-true, vec_len, arith}
+use Rattle.std.proofs.Common.{◌≡◌, ◌≤◌, [], sym, ◌∙◌, eqb-true, vec_len, arith}
 use Rattle.frontier.proofs.Bags.{AreKept-slid, none_long}
 use Rattle.frontier.proofs.lazy.LazyRing.slide.Goals as goal
 

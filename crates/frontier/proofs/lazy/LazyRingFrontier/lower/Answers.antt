@@ -1,4 +1,4 @@
-use Rattle.std.proofs.Common.{◌≡◌, ◌<◌, ℕ, List, Some, Option, unwrap_or, length, set, subst, sym, arith}
+use Rattle.std.proofs.Common.{◌≡◌, ◌<◌, ℕ, List, Some, Option, unwrap_or, set, subst, sym, arith}
 use Rattle.relax.specs.Values.{value_at}
 use Rattle.frontier.specs.Live.{AreEntriesKept}
 use Rattle.frontier.proofs.Bags.{AreKept-lowered, AreKept-same, IsNowhere-lower, all_queued-lowered, is_at_most-lowered}

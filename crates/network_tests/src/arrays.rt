@@ -60,3 +60,23 @@ fn one_more_item(rt: HostRuntime) {
     assert!(rt; pushed(rt.alloc(), 1023) == Ok((1024, 1, 1022, 8)));
     assert!(rt; pushed(rt.alloc(), 1024) == Ok((1025, 2, 1023, 8)));
 }
+
+/// The number of items and of chunks after two items behind a whole chunk, and the items around its end.
+fn appended(alloc: Global) -> Result<(usize, usize, u32, u32), AllocError> {
+    let mut array = ChunkedArray::from_slice(alloc, &numbers(alloc, 1024)?)?;
+    if array.len() != 1024 {
+        return Ok((0, 0, 0, 0));
+    }
+    array.append(&[5, 6])?;
+    Ok((
+        array.len(),
+        array.chunk_count(),
+        *array.get(1023),
+        *array.get(1025),
+    ))
+}
+
+#[test]
+fn more_items_behind_whole_chunks(rt: HostRuntime) {
+    assert!(rt; appended(rt.alloc()) == Ok((1026, 2, 1023, 6)));
+}

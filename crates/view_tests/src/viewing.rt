@@ -3,10 +3,14 @@
 use deltastep::Guide;
 use fixtures::{network, six_with};
 use relax::Solo;
-use roadnet::{OutOfMemory, Refusal};
-use rows::{Landmarks, Query, Reply, RowCache, View, answer_plain, numbered_back};
+use roadnet::{Command, Group, OutOfMemory, Refusal};
+use rows::{
+    Landmarks, Query, Reply, RowCache, View, answer_plain, numbered_back, numbered_back_after,
+};
 use shared_network::SharedNetwork;
+use snapshot::Leg;
 use std::alloc::Global;
+use std::array::from_ref;
 use std::sync::Arc;
 use std::thread::Threads;
 
@@ -129,6 +133,31 @@ fn shares_back(alloc: Global) -> Result<bool, Refusal> {
         return Err(Refusal::OutOfMemory);
     };
     Ok(view.with_back(back).back().is_some())
+}
+
+/// The legs back from node 1, to which no arc led, after arc 9 was laid from node 4 to it.
+fn legs_back(alloc: Global) -> Result<(usize, Option<Leg>), Refusal> {
+    let Ok(six) = six_with(alloc, &[])?.with_room(9) else {
+        return Err(Refusal::TooLarge);
+    };
+    let older = SharedNetwork::of(alloc, &six)?;
+    let group = Group::one(Command::Lay {
+        tail: 4,
+        head: 1,
+        length: 3,
+    });
+    let newer = older.after(alloc, from_ref(&group))?;
+    let back = numbered_back(alloc, &older)?;
+    let back = numbered_back_after(alloc, &back, &older, &newer)?;
+    let legs = back.light(1);
+    Ok((legs.len(), legs.first().copied()))
+}
+
+/// Each leg back has the number of its arc.
+#[test]
+fn arcs_turned_round_after_one_was_laid(rt: HostRuntime) {
+    let leg = Leg { head: 4, length: 9 };
+    assert!(rt; legs_back(rt.alloc()).expect(&rt, "the group is admitted") == (1, Some(leg)));
 }
 
 /// More landmarks lead than the one with the greatest bound at the source. The arcs turned round have the width of the view, and are shared. Refused is a

@@ -1,5 +1,5 @@
 -- What is seen of a network at one number after a command, and that what is seen at all numbers tells the network.
-use Rattle.std.proofs.Common.{◌≡◌, ◌∙◌, ℕ, zero, suc, ◌+◌, ◌<◌, ◌≤◌, Bool, true, false, true≢false, ◌||◌, List, [], ◌∷◌, ◌++◌, Option, Some, None, length, get_or, refl, ap, sym, subst, arith, eqb, ltb, ⊎_elim, length-append}
+use Rattle.std.proofs.Common.{◌≡◌, ◌∙◌, ℕ, zero, suc, ◌+◌, ◌<◌, ◌≤◌, Bool, true, false, true≢false, ◌||◌, List, [], ◌∷◌, ◌++◌, Option, Some, None, length, get_or, refl, ap, sym, subst, arith, eqb, ⊎_elim, length-append}
 use Rattle.std.specs.Prelude.{MatchOption, is_some, option_map, unwrap_or}
 use Rattle.std.specs.List.{slice_get}
 use Rattle.std.specs.List.Sorted.{IsStrictlyIncreasing}
@@ -13,7 +13,7 @@ use Rattle.roadnet.specs.declared.groups.Group.{Group}
 use Rattle.roadnet.specs.declared.refusals.Refusal.{Refusal}
 use Rattle.roadnet.specs.Groups.{commands_of}
 use Rattle.roadnet.specs.Members.{is_member}
-use Rattle.roadnet.specs.Net.{Net, IsNode, IsNetwork, arc_at, nth, update_nth, longest_arc, most_nodes}
+use Rattle.roadnet.specs.Net.{Net, IsNetwork, arc_at, nth, update_nth, longest_arc, most_nodes}
 use Rattle.roadnet.specs.Step.{after, changed, first_refusal, is_landmark, new_arc, refusal_of, step_group}
 use Rattle.roadnet.specs.Batches.{changed_by_all, first_refusal_of_all}
 use Rattle.roadnet.proofs.InTurn.{changed_by_all_is, groups_are_their_commands, marked-mark, marked-mark_other, marked-unmark, marked-unmark_other, nodes_kept, refused_as_their_commands, room_kept}

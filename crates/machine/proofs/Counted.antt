@@ -1,5 +1,5 @@
 -- How many commands groups have, and which groups a flush takes.
-use Rattle.std.proofs.Common.{◌≡◌, ◌∙◌, ℕ, zero, suc, ◌+◌, ◌-◌, ◌<◌, ◌≤◌, Bool, true, false, cond, leb, List, [], ◌∷◌, ◌++◌, length, take, drop, refl, ap, sym, arith, length-append, length-drop}
+use Rattle.std.proofs.Common.{◌≡◌, ◌∙◌, ℕ, zero, suc, ◌+◌, ◌-◌, ◌≤◌, Bool, true, false, cond, leb, List, [], ◌∷◌, ◌++◌, length, take, drop, refl, ap, sym, arith, length-append, length-drop}
 use Rattle.std.specs.List.{All}
 use Rattle.std.proofs.lemmas.Bool.{leb-true, le-leb}
 use Rattle.std.proofs.lemmas.List.{take-append-drop}
@@ -9,8 +9,8 @@ use Rattle.std.proofs.Math.Seq.{drop-nil}
 use Rattle.roadnet.specs.declared.groups.Group.{Group}
 use Rattle.roadnet.specs.Groups.{IsGroup, commands_of, count_of}
 use Rattle.roadnet.proofs.InTurn.{commands_of-cons}
-use Rattle.machine.specs.Machine.{Machine, IsState, fitting, groups_behind, latest, pending, of_life, batch, most_of_page}
-use Rattle.machine.specs.Laws.{IsLongestFront, FlushTakesLongestFront, VersionsAreFewer}
+use Rattle.machine.specs.Machine.{Machine, IsState, fitting, groups_behind, latest, batch, most_of_page}
+use Rattle.machine.specs.Laws.{FlushTakesLongestFront, VersionsAreFewer}
 
 abbrev pub no_groups : List Group
 no_groups = []

@@ -1,6 +1,6 @@
 -- The networks that a keeper has at hand stay tied to its machine: one lemma a change of the state.
 use Rattle.std.proofs.Common.{◌≡◌, ℕ, suc, zero, ◌+◌, ◌-◌, ◌<◌, ◌≤◌, Bool, true, false, true≢false, cond, leb, ltb, List, [], ◌∷◌, ◌++◌, length, take, drop, Option, Some, None, Ok, refl, sym, ◌∙◌, ap, subst, arith, length-take, length-drop}
-use Rattle.std.specs.Prelude.{IfSome, MatchOption, option_map, is_some, is_none, option_and_then, nat_lt}
+use Rattle.std.specs.Prelude.{IfSome, MatchOption, option_map, is_some, option_and_then, nat_lt}
 use Rattle.std.proofs.Math.Seq.{take-add}
 use Rattle.std.proofs.lemmas.Bool.{leb-true, le-ltb}
 use Rattle.std.proofs.lemmas.List.{take-append-le}

@@ -1,8 +1,8 @@
 -- The arcs with their numbers, by their heads.
-use Rattle.std.proofs.Common.{◌≡◌, ◌∙◌, ℕ, zero, suc, ◌+◌, ◌-◌, ◌<◌, ◌≤◌, ◌^◌, inl, inr, List, [], ◌∷◌, ◌++◌, drop, length, get_or, Contains, None, Some, slice_get, refl, sym, ap, subst, arith, ⊎_elim}
+use Rattle.std.proofs.Common.{◌≡◌, ◌∙◌, ℕ, zero, suc, ◌+◌, ◌-◌, ◌<◌, ◌≤◌, ◌^◌, inl, inr, List, [], ◌∷◌, ◌++◌, drop, length, get_or, take, Contains, None, Some, slice_get, refl, sym, ap, ap₂, subst, arith, ⊎_elim}
 use Rattle.std.specs.List.{All}
 use Rattle.std.proofs.lemmas.Bool.{cases_lt, le-leb}
-use Rattle.std.proofs.lemmas.List.{get_or-drop, get_or_default, length-drop}
+use Rattle.std.proofs.lemmas.List.{get_or-drop, get_or_default, length-drop, take_more}
 use Rattle.std.proofs.lemmas.List.Elements.{All-contains, Contains-append_left, Contains-append_right}
 use Rattle.std.proofs.lemmas.Option.{get_or_from_slice_get, slice_get-get_or, slice_get_within}
 use Rattle.roadnet.specs.Net.{Net, IsNetwork, IsArcAmong, arc_at, longest_arc}
@@ -32,6 +32,17 @@ get_or-numbered n (arc ∷ arcs) zero d e h =
 get_or-numbered n (arc ∷ arcs) (suc k) d e h =
     let sum : suc n + k ≡ n + suc k = omega arith in
     get_or-numbered (suc n) arcs k d e (omega (arith, h)) ∙ ap (λ (m : ℕ). back_numbered m (get_or arcs k e)) sum
+
+-- one arc more of those from the place n on
+pub one_more : (arcs : List RoadArc) (n i : ℕ) (all new : List RoadArc) (arc : RoadArc) → n ≤ i → i < length arcs → all ≡ take (i - n) (drop n (numbered_from 1 arcs)) → get_or (numbered_from 1 arcs) i arc ≡ arc → new ≡ all ++ arc ∷ [] → new ≡ take (i + 1 - n) (drop n (numbered_from 1 arcs))
+one_more arcs n i all new arc from within sofar is pushed =
+    let next : i + 1 - n ≡ i - n + 1 = omega (arith, from) in
+    let at : n + (i - n) ≡ i = omega (arith, from) in
+    let inside : i - n < length (drop n (numbered_from 1 arcs)) = omega (arith, length-drop n (numbered_from 1 arcs), length-numbered 1 arcs, from, within) in
+    let here : get_or (drop n (numbered_from 1 arcs)) (i - n) arc ≡ arc = get_or-drop n (numbered_from 1 arcs) (i - n) arc ∙ (ap (λ k. get_or (numbered_from 1 arcs) k arc) at ∙ is) in
+    pushed
+    ∙ (ap₂ (λ (xs : List RoadArc) (x : RoadArc). xs ++ x ∷ []) sofar (sym here)
+    ∙ (sym (take_more (drop n (numbered_from 1 arcs)) (i - n) arc inside) ∙ ap (λ k. take k (drop n (numbered_from 1 arcs))) (sym next)))
 
 numbered-among : (nodes n : ℕ) (arcs : List RoadArc) → n + length arcs ≤ 2 ^ 26 + 1 → All (IsArcAmong nodes) arcs → All (IsArcAmong nodes) (numbered_from n arcs)
 numbered-among nodes n arcs few among k d h =

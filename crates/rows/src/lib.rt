@@ -14,6 +14,7 @@ mod landmark_replies;
 mod landmark_rows;
 mod laws;
 mod nearby;
+mod onward;
 mod pinned;
 mod places;
 mod queries;

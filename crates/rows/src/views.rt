@@ -180,7 +180,7 @@ impl View {
     }
 
     /// A share of the index of its network's arcs, if it has one and a share can be made.
-    pub fn index(&self) -> Option<Arc<ArcIndex>>
+    pub(crate) fn index(&self) -> Option<Arc<ArcIndex>>
         ensures { ForSome result (λ index. AreArcsByBlock self.now.network.nodes self.now.network.arcs index.value) }
     {
         let index = self.index.as_ref()?;

@@ -2,7 +2,6 @@
 ghost use Rattle.std.specs.Prelude.{◌≡◌, IfOk, IfSome};
 ghost use Rattle.std.specs.Option.{ForSome};
 ghost use Rattle.rows.specs.Kept.{IsWidth};
-ghost use Rattle.snapshot.specs.Blocks.{AreArcsByBlock};
 ghost use Rattle.snapshot.specs.Groups.{IsSnapshotOf};
 ghost use Rattle.deltastep.specs.Repair.{AreChanged};
 ghost use Rattle.desk.specs.Repairs.{AreGroupedBy, IsOlder};
@@ -29,32 +28,6 @@ pub(crate) struct Grouped {
     pub(crate) index: Option<Arc<ArcIndex>>,
 }
 
-/// The index of a network's arcs: that of an older view, if it has one, with the arcs that were laid since; otherwise it is made anew. The only error is lack
-/// of memory.
-fn index_after(
-    alloc: Global,
-    old: Older<'_>,
-    network: &SharedNetwork,
-) -> Result<Arc<ArcIndex>, OutOfMemory>
-    requires { IsOlder network.now old }
-    ensures { IfOk result (λ index. AreArcsByBlock network.now.nodes network.now.arcs index.value) }
-{
-    let older = old.view.network();
-    let index = match old.view.index() {
-        Some(index) => {
-            if older.arcs().len() == network.arcs().len() {
-                return Ok(index);
-            }
-            index.after(alloc, older, network)?
-        }
-        None => ArcIndex::build(alloc, network)?,
-    };
-    match Arc::new(alloc, index) {
-        Ok(index) => Ok(index),
-        Err(_) => Err(OutOfMemory),
-    }
-}
-
 /// The groups of a network by this width, or by its default if none is given. Those of an older view that has that width are taken over, but for the blocks of
 /// the arcs that changed; otherwise all are made anew. The index is kept once there is an older view: before any change it is not worth its memory. The only
 /// error is lack of memory.
@@ -79,7 +52,7 @@ pub(crate) fn groups_after(
             index: None,
         });
     };
-    let index = index_after(alloc, old, network)?;
+    let index = old.view.index_after(alloc, network)?;
     let before = old.view.snapshot();
     let mut snapshot = before.after(alloc, network, &index, old.changed)?;
     let width = match delta {

@@ -16,7 +16,7 @@ use crate::threads::row_workers::{RowJob, landmark_rows};
 use disk::Disk;
 use office::Work;
 use roadnet::OutOfMemory;
-use rows::{Row, View, numbered_back, numbered_back_after};
+use rows::{Row, View};
 use shared_network::SharedNetwork;
 use snapshot::{ArcIndex, Snapshot};
 use std::alloc::Global;
@@ -48,18 +48,7 @@ fn back_after(
     requires { ForSome old (IsOlder network.now) }
     ensures { ForSome result (λ back. LeadsBack network.now back.value) }
 {
-    let old = old?.view;
-    let older = old.network();
-    let back = match old.back() {
-        Some(back) => {
-            if older.arcs().len() == network.arcs().len() {
-                return Some(back);
-            }
-            numbered_back_after(alloc, &back, older, network)
-        }
-        None => numbered_back(alloc, network),
-    };
-    Arc::new(alloc, back.ok()?).ok()
+    old?.view.back_after(alloc, network).ok()
 }
 
 /// The legs of a network's snapshot the other way round, lent.

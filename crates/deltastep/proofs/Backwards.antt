@@ -1,5 +1,5 @@
 -- What a node reaches in the reversed network is what reaches it in the network.
-use Rattle.std.proofs.Common.{◌≡◌, ℕ, List, sym, subst}
+use Rattle.std.proofs.Common.{ℕ, List, sym, subst}
 use Rattle.roadnet.specs.Net.{Net, IsNetwork}
 use Rattle.roadnet.specs.Reversal.{reversed}
 use Rattle.roadnet.specs.Walks.{Least}

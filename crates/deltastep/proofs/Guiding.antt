@@ -1,5 +1,5 @@
 -- What a guided search keeps, and why what it finds is least.
-use Rattle.std.proofs.Common.{◌≡◌, ◌≢◌, ℕ, ◌+◌, ◌*◌, ◌/◌, ◌<◌, ◌≤◌, ◌^◌, ◌⊎◌, List, [], ◌∷◌, ◌++◌, length, take, get_or, set, Contains, IsSome, Option, Some, None, refl, sym, ap, subst, ◌∙◌, inl, inr, arith, unwrap_or, is_some, length-set, get_or-set_same, get_or-set_other, le_refl, le_trans, le_of_eq, MatchOption, IfSome, Bool, true, false, IsTrue, ◌↔◌, div-mul-le_self, lt_of_le_of_lt}
+use Rattle.std.proofs.Common.{◌≡◌, ◌≢◌, ℕ, ◌+◌, ◌*◌, ◌/◌, ◌<◌, ◌≤◌, ◌^◌, ◌⊎◌, List, [], ◌∷◌, ◌++◌, length, set, Contains, IsSome, Option, Some, None, refl, sym, ap, subst, ◌∙◌, inl, inr, arith, unwrap_or, is_some, length-set, get_or-set_same, get_or-set_other, le_refl, le_trans, MatchOption, IfSome, Bool, true, false, IsTrue, ◌↔◌, div-mul-le_self, lt_of_le_of_lt}
 use Rattle.relax.specs.Values.{value_at, value_or}
 use Rattle.std.specs.FinMap.{get, insert}
 use Rattle.std.proofs.lemmas.Bool.{cases_eq}
@@ -12,8 +12,8 @@ use Rattle.buckets.specs.Queue.{Entries, TakesLeast}
 use Rattle.snapshot.specs.declared.legs.Leg.{Leg}
 use Rattle.snapshot.specs.declared.legs.Part.{Part}
 use Rattle.snapshot.specs.declared.legs.Part.TheVariants.{Light, Heavy}
-use Rattle.deltastep.specs.Search.{top_of, Trip, trip_length, Reaches, AreReached, IsRelaxed, IsRelaxedBut, IsBetweenBuckets, IsFinal, weight}
-use Rattle.deltastep.specs.Guided.{ConsistentIsLowerBound, IsConsistent, IsLowerBound, IsKey, IsGuided, IsDone, IsLoweredTo, SearchGoesOn, IsBest}
+use Rattle.deltastep.specs.Search.{top_of, Trip, trip_length, Reaches, IsRelaxedBut, IsBetweenBuckets, IsFinal, weight}
+use Rattle.deltastep.specs.Guided.{ConsistentIsLowerBound, IsKey, IsGuided, IsDone, IsLoweredTo, SearchGoesOn, IsBest}
 use Rattle.deltastep.proofs.Division.{div-le_div}
 use Rattle.deltastep.proofs.Lowering.{value_or-some, value_or-set_same, value_or-set_other, value_or-set-le}
 use Rattle.frontier.proofs.Members.{Contains-nil, head_of, Contains-head_of}

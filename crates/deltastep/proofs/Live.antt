@@ -1,5 +1,5 @@
 -- The queued values lie in as many buckets in a row as a ring needs, through a phase and a taking.
-use Rattle.std.proofs.Common.{◌≡◌, ℕ, ◌+◌, ◌/◌, ◌<◌, ◌≤◌, List, Contains, Option, Some, None, Bool, true, false, MatchBool, MatchOption, sym, ap, subst, ◌∙◌, inl, inr, arith, div-le_self}
+use Rattle.std.proofs.Common.{◌≡◌, ℕ, ◌+◌, ◌/◌, ◌<◌, ◌≤◌, List, Option, Some, None, Bool, true, false, MatchBool, MatchOption, sym, ap, subst, ◌∙◌, inl, inr, arith, div-le_self}
 use Rattle.std.specs.FinMap.{get, insert, empty, get-empty}
 use Rattle.std.specs.Ordering.{nat_cmp}
 use Rattle.std.proofs.lemmas.Bool.{cases_eq}

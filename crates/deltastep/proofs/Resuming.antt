@@ -1,9 +1,8 @@
 -- What a search knows that goes on from values which are lengths of trips.
-use Rattle.std.proofs.Common.{◌≡◌, ◌≢◌, ℕ, zero, suc, ◌+◌, ◌*◌, ◌-◌, ◌<◌, ◌≤◌, ◌⊎◌, List, [], length, Contains, IsSome, Option, Some, None, refl, sym, ap, subst, ◌∙◌, inl, inr, arith, is_some, All}
+use Rattle.std.proofs.Common.{◌≡◌, ℕ, zero, suc, ◌≤◌, ◌⊎◌, List, [], Contains, IsSome, Option, Some, sym, ap, subst, ◌∙◌, inl, inr, arith, is_some}
 use Rattle.std.proofs.lemmas.Bool.{cases_eq, cases_lt}
-use Rattle.std.proofs.lemmas.Option.{same_Some}
 use Rattle.std.specs.FinMap.{get, insert, empty}
-use Rattle.relax.specs.Values.{value_at, value_or}
+use Rattle.relax.specs.Values.{value_at}
 use Rattle.snapshot.specs.Groups.{Groups, legs_of, IsGrouped}
 use Rattle.snapshot.specs.declared.legs.Leg.{Leg}
 use Rattle.snapshot.specs.declared.legs.Part.{Part}

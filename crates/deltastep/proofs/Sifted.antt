@@ -1,15 +1,15 @@
 -- To meet the requests that ask for less than is known is to meet all.
-use Rattle.std.proofs.Common.{◌≡◌, ◌≢◌, ℕ, zero, suc, ◌+◌, ◌<◌, ◌≤◌, ◌⊎◌, nat_lt, Bool, true, false, cond, List, [], ◌∷◌, length, map, take, drop, set, get_or, filter, All, Contains, Option, unwrap_or, refl, sym, ap, subst, ◌∙◌, inl, inr, arith, length-set}
+use Rattle.std.proofs.Common.{◌≡◌, ℕ, zero, suc, ◌+◌, ◌<◌, ◌≤◌, ◌⊎◌, Bool, true, false, cond, List, [], ◌∷◌, length, set, get_or, filter, Contains, Option, unwrap_or, refl, sym, ap, subst, ◌∙◌, inl, inr, arith, length-set}
 use Rattle.std.specs.FinMap.{get}
 use mir.Val.{bool_byte}
-use Rattle.std.proofs.lemmas.Bool.{lt-ltb, le-ltb, cases_lt}
-use Rattle.std.proofs.lemmas.List.{take-set, drop-set-lt, get_or-drop, get_or-map}
+use Rattle.std.proofs.lemmas.Bool.{lt-ltb, cases_lt}
+use Rattle.std.proofs.lemmas.List.{take-set, drop-set-lt, get_or-drop}
 use Rattle.std.proofs.lemmas.List.Filters.{FiltersInPlace, FiltersInPlace-more_set, FiltersInPlace-more_no}
 use Rattle.relax.specs.Values.{value_at, value_or}
 use Rattle.buckets.specs.Queue.{Entries}
 use Rattle.deltastep.specs.Search.{MeetsRequests, TookRequest}
 use Rattle.deltastep.specs.Sifting.{lowers, sifted}
-use Rattle.frontier.proofs.Members.{Contains-head, Contains-tail, Contains-nil}
+use Rattle.frontier.proofs.Members.{Contains-tail, Contains-nil}
 
 -- what a filter keeps was there, and it keeps what passes
 Contains-of_filter : {X : Type 0} (p : X → Bool) (xs : List X) (x : X) → Contains (filter p xs) x → Contains xs x

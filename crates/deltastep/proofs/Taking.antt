@@ -1,5 +1,5 @@
 -- Nodes of a bucket that are relaxed one after another.
-use Rattle.std.proofs.Common.{◌≡◌, ℕ, ◌+◌, ◌<◌, List, [], ◌∷◌, ◌++◌, length, get_or, drop, Contains, Option, subst, eqb, arith, Bool, true, false, not}
+use Rattle.std.proofs.Common.{◌≡◌, ℕ, ◌+◌, ◌<◌, List, [], ◌∷◌, length, get_or, drop, Option, subst, eqb, arith, Bool, true, false, not}
 use Rattle.std.specs.List.{IsDistinct}
 use Rattle.std.specs.Bool.{OnTrue, OnFalse}
 use Rattle.std.proofs.lemmas.List.{drop_more, drop_all}

@@ -1,5 +1,5 @@
 -- What lists of nodes with their distances say of the nodes within a limit, and of the nearest.
-use Rattle.std.proofs.Common.{◌≡◌, ℕ, zero, suc, ◌+◌, ◌-◌, ◌<◌, ◌≤◌, ◌⊎◌, ◌≢◌, ◌↔◌, min, Bool, true, false, cond, eqb, List, [], ◌∷◌, ◌++◌, length, map, filter, take, drop, count_by, Contains, Option, Some, None, IfSome, get_or, refl, sym, ap, subst, ◌∙◌, inl, inr, arith, le-leb, leb-true}
+use Rattle.std.proofs.Common.{◌≡◌, ℕ, zero, suc, ◌+◌, ◌<◌, ◌≤◌, ◌⊎◌, ◌≢◌, ◌↔◌, min, Bool, true, false, cond, eqb, List, [], ◌∷◌, ◌++◌, length, map, filter, take, drop, count_by, Contains, Option, Some, None, IfSome, get_or, refl, sym, ap, subst, ◌∙◌, inl, inr, arith, le-leb, leb-true}
 use Rattle.std.specs.List.{AllByRecursion, IsDistinct}
 use Rattle.std.specs.List.Retain.{DiffersFromLast, IsFiltered}
 use Rattle.std.specs.List.Sorted.{IsPermutation, IsSorted, IsStrictlyIncreasing, IsStrictlySortedBy}

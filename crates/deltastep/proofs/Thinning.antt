@@ -11,6 +11,7 @@ use Rattle.snapshot.specs.declared.legs.Leg.{Leg}
 use Rattle.snapshot.specs.declared.legs.Part.{Part}
 use Rattle.snapshot.specs.declared.legs.Part.TheVariants.{Light, Heavy}
 use Rattle.deltastep.specs.Repair.{HasLeg, IsLost, LeadToLost, AreThereOrLost, AreGoneLost, IsSpread, IsClosedBut, IsThinner, Thins}
+
 pub IsThinner-same : (source : ℕ) (t : List (Option ℕ)) → IsThinner source t t
 IsThinner-same source t = record { places = refl; starts = refl; moves = λ u. inr refl }
 

@@ -14,7 +14,6 @@ use Rattle.std.specs.declared.cmp.Ordering.TheVariants.{Less}
 use Rattle.relax.specs.Values.{value_at, value_or}
 use Rattle.roadnet.specs.Net.{Net, IsNode}
 use Rattle.roadnet.specs.Walks.{Least, NoWalk}
-use Rattle.snapshot.specs.Groups.{Groups}
 use Rattle.buckets.specs.Queue.{Entries}
 use Rattle.std.specs.FinMap as map_of
 use Rattle.deltastep.specs.declared.rows.known.NodeDistance.{NodeDistance}

@@ -2,5 +2,6 @@
 
 pub(crate) mod changed;
 mod near;
+mod remaining;
 pub(crate) mod repairing;
 mod untouched;

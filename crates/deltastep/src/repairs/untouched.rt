@@ -7,7 +7,7 @@ ghost use Rattle.roadnet.specs.Walks.{RowOf, distance_at};
 ghost use Rattle.snapshot.specs.Groups.{IsSnapshotOf, legs_of};
 ghost use Rattle.deltastep.specs.Repair.{AreChanged, AreFeasible, AreThere, HasLeg, IsUntouched};
 
-use crate::repairs::repairing::{has_leg, is_sum};
+use crate::repairs::remaining::{has_leg, is_sum};
 use crate::rows::distances::Distances;
 use snapshot::{Leg, Part, Snapshot};
 

@@ -5,11 +5,14 @@ ghost use Rattle.roadnet.specs.Walks.{distance_at};
 ghost use Rattle.deltastep.specs.Words.{distance_of_short, distance_of_word, distances_of, no_short_walk};
 
 use crate::rows::distances::NO_WALK;
-use chunked::ChunkedArray;
+use chunked::{CHUNK, ChunkedArray};
 use std::alloc::Global;
 
 /// The word of 4 bytes that means "no walk leads there".
 const NO_SHORT_WALK: u32 = u32::MAX;
+
+/// No network has more nodes.
+const MOST_NODES: usize = u32::MAX as usize;
 
 /// The words of a row, one for each node: of 4 bytes if each least length is below 2^32 - 1, otherwise of 8.
 #[derive(Drop)]
@@ -89,28 +92,40 @@ fn short_of(word: u64) -> Option<u32>
     Some(word as u32)
 }
 
-/// The same distances in words of 4 bytes, if they fit and there is memory.
-fn shortened(alloc: Global, words: &[u64]) -> Option<Vec<u32>>
-    ensures { IfSome result (λ short. map distance_of_short short.items ≡ map distance_of_word words.now) }
+/// Makes the list that of the words of 4 bytes that say the same as these, if they fit and there is memory.
+fn shorten(short: &mut Vec<u32>, words: &[u64]) -> Option<()>
+    ensures { IfSome result (λ _. map distance_of_short short.new.items ≡ map distance_of_word words.now) }
 {
-    let Ok(mut short) = Vec::with_capacity(alloc, words.len()) else {
-        return None;
-    };
+    short.clear();
     for word in words {
         if short.push(short_of(*word)?).is_err() {
             return None;
         }
     }
-    Some(short)
+    Some(())
 }
 
-/// The same distances in chunks of words of 4 bytes, if they fit and there is memory.
+/// The same distances in chunks of words of 4 bytes, if they fit, there is memory, and they are no more than nodes can be. Beside the chunks it takes the memory
+/// of one.
 fn in_chunks(alloc: Global, words: &[u64]) -> Option<ChunkedArray<u32>>
     ensures { IfSome result (λ short. map distance_of_short short ≡ map distance_of_word words.now) }
 {
-    let short = shortened(alloc, words)?;
-    match ChunkedArray::from_slice(alloc, &short) {
-        Ok(chunks) => Some(chunks),
-        Err(_) => None,
+    if words.len() > MOST_NODES {
+        return None;
     }
+    let Ok(mut chunks) = ChunkedArray::from_slice(alloc, &[]) else {
+        return None;
+    };
+    let Ok(mut short) = Vec::with_capacity(alloc, CHUNK.min(words.len())) else {
+        return None;
+    };
+    for k in 0..words.len().div_ceil(CHUNK) {
+        let from = k * CHUNK;
+        let part = &words[from..from + CHUNK.min(words.len() - from)];
+        shorten(&mut short, part)?;
+        let Ok(()) = chunks.append(&short) else {
+            return None;
+        };
+    }
+    Some(chunks)
 }

@@ -1,4 +1,4 @@
-use Rattle.std.proofs.Common.{◌∙◌, ◌<◌, ◌+◌, Some, true, false, length, sym, ap, arith}
+use Rattle.std.proofs.Common.{◌∙◌, ◌<◌, ◌+◌, Some, length, sym, ap, arith}
 use Rattle.std.proofs.lemmas.List.Sums.{count_by_more_no, count_by_more_yes}
 use Rattle.deltastep.specs.Reach.{has_within, is_within}
 use Rattle.deltastep.proofs.questions.nearest.count_known.Goals as goal

@@ -1,4 +1,4 @@
-use Rattle.std.proofs.Common.{◌≡◌, ◌∙◌, ℕ, List, filter, map, sym, ap, subst}
+use Rattle.std.proofs.Common.{◌∙◌, ℕ, List, map, sym, ap, subst}
 use Rattle.std.specs.List.Sorted.{IsPermutation}
 use Rattle.deltastep.specs.Reach.{AreNearest, AreNodesOfRow, has_within, node_told_of}
 use Rattle.deltastep.specs.declared.rows.known.NodeDistance.{NodeDistance}

@@ -1,4 +1,4 @@
-use Rattle.std.proofs.Common.{◌∷◌, ◌+◌, ◌<◌, ◌≤◌, ℕ, List, None, length, arith}
+use Rattle.std.proofs.Common.{◌∷◌, ℕ, None, arith}
 use Rattle.std.specs.Global.{Vec}
 use Rattle.std.proofs.lemmas.Result.{IfOk-weaker}
 use Rattle.roadnet.specs.Net.{Net}

@@ -1,4 +1,4 @@
-use Rattle.std.proofs.Common.{◌≡◌, ◌<◌, ◌≤◌, length, arith}
+use Rattle.std.proofs.Common.{◌≡◌, length, arith}
 use Rattle.std.proofs.lemmas.List.{ext_get_or}
 use Rattle.snapshot.specs.declared.legs.Leg.{Leg}
 use Rattle.deltastep.proofs.repairs.changed.are_same.Goals as goal

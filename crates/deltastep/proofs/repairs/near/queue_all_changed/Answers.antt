@@ -1,4 +1,4 @@
-use Rattle.std.proofs.Common.{◌≡◌, ◌<◌, ◌≤◌, ◌∙◌, take, length, arith}
+use Rattle.std.proofs.Common.{◌<◌, ◌≤◌, ◌∙◌, take, length, arith}
 use Rattle.deltastep.specs.Repair.{IsNodeLooked}
 use Rattle.deltastep.proofs.Phases.{on_true}
 use Rattle.deltastep.proofs.Thinning.{All-take_more, All-of_take}

@@ -1,4 +1,4 @@
-use Rattle.std.proofs.Common.{◌≡◌, ℕ, ◌≤◌, take, All}
+use Rattle.std.proofs.Common.{◌≡◌, ◌≤◌, take, All}
 use Rattle.deltastep.specs.Repair.{AreQueued, IsNodeLooked}
 use Rattle.deltastep.proofs.repairs.near.queue_all_changed.Given as goal
 

@@ -1,4 +1,4 @@
-use Rattle.std.proofs.Common.{◌≡◌, ◌<◌, ◌≤◌, ◌∙◌, take, length, arith}
+use Rattle.std.proofs.Common.{◌<◌, ◌≤◌, ◌∙◌, take, length, arith}
 use Rattle.snapshot.specs.declared.legs.Leg.{Leg}
 use Rattle.deltastep.specs.Repair.{IsNodeLooked}
 use Rattle.deltastep.proofs.Phases.{on_true}

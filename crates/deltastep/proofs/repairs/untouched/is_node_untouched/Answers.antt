@@ -1,4 +1,4 @@
-use Rattle.std.proofs.Common.{◌≡◌, ◌∙◌, sym, ap}
+use Rattle.std.proofs.Common.{◌∙◌, sym, ap}
 use Rattle.roadnet.specs.Walks.{distance_at}
 use Rattle.deltastep.proofs.Phases.{on_true, on_true_of}
 use Rattle.deltastep.proofs.Staying.{IsUntouched-parts}

@@ -1,4 +1,4 @@
-use Rattle.std.proofs.Common.{◌≡◌, ℕ, ◌≤◌, ◌<◌, length, arith}
+use Rattle.std.proofs.Common.{◌≤◌, ◌<◌, length, arith}
 use Rattle.deltastep.specs.Repair.{IsUntouched}
 use Rattle.deltastep.proofs.Remaining.{IsRowIn, IsRowIn-of}
 use Rattle.deltastep.proofs.Phases.{on_true}

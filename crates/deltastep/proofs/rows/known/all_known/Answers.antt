@@ -1,5 +1,4 @@
-use Rattle.std.proofs.Common.{◌≡◌, ◌∙◌, ◌<◌, ◌≤◌, ◌+◌, ℕ, Some, true, arith}
-use Rattle.deltastep.specs.Reach.{has_within}
+use Rattle.std.proofs.Common.{arith}
 use Rattle.deltastep.proofs.Telling.{AreAllWithin-all, all_right_more, all_each_more}
 use Rattle.deltastep.proofs.rows.known.all_known.Goals as goal
 

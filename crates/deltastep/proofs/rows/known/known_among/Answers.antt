@@ -1,4 +1,4 @@
-use Rattle.std.proofs.Common.{◌≡◌, ◌∙◌, ◌<◌, ◌++◌, ◌∷◌, [], ℕ, List, length, get_or, cond, sym, ap, arith}
+use Rattle.std.proofs.Common.{◌∙◌, ◌<◌, ◌++◌, ◌∷◌, [], ℕ, List, length, get_or, cond, sym, ap, arith}
 use Rattle.std.proofs.lemmas.List.Elements.{filter_more}
 use Rattle.deltastep.specs.Reach.{has_within}
 use Rattle.deltastep.proofs.rows.known.known_among.Goals as goal

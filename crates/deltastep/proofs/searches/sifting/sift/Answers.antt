@@ -1,6 +1,5 @@
 use Rattle.std.proofs.Common.{ℕ, List, map, ap, ◌∙◌}
 use Rattle.relax.specs.Values.{value_or}
-use Rattle.deltastep.specs.Sifting.{sifted}
 use Rattle.deltastep.proofs.searches.sifting.sift.Goals as goal
 
 pub returns : goal.returns

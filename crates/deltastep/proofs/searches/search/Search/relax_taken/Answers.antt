@@ -1,4 +1,4 @@
-use Rattle.std.proofs.Common.{ℕ, ◌<◌, length, get_or, drop, ◌+◌, ◌∷◌, sym, subst, le_trans, arith}
+use Rattle.std.proofs.Common.{◌<◌, length, drop, ◌+◌, sym, subst, le_trans, arith}
 use Rattle.std.specs.Bool.{OnFalse}
 use Rattle.deltastep.specs.Search.{IsBucketEmpty}
 use Rattle.deltastep.proofs.Phases.{on_false, map_false}

@@ -1,4 +1,4 @@
-use Rattle.std.proofs.Common.{◌≡◌, ℕ, ◌≤◌, drop}
+use Rattle.std.proofs.Common.{ℕ, ◌≤◌, drop}
 use Rattle.std.specs.Bool.{OnFalse}
 use Rattle.snapshot.specs.declared.legs.Part.{Part}
 use Rattle.deltastep.specs.Search.{AreInBucket, AreReached, FitsFrom, IsBucketEmpty, IsRelaxedBut, IsSearch, IsSuited, top_of, weight}

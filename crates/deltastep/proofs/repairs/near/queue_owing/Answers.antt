@@ -1,6 +1,6 @@
-use Rattle.std.proofs.Common.{◌≡◌, ◌<◌, ◌≤◌, sym, ◌∙◌, inl, arith}
+use Rattle.std.proofs.Common.{sym, inl, arith}
 use Rattle.deltastep.proofs.Resuming.{AreQueued-put, IsSome-put, IsSome-put_here}
-use Rattle.deltastep.proofs.repairs.repairing.queue_owing.Goals as goal
+use Rattle.deltastep.proofs.repairs.near.queue_owing.Goals as goal
 
 pub owes-requires-clause-small : goal.owes-requires-clause-small
 owes-requires-clause-small g c = omega (arith, c.requires.search.below_top c.args.node c.in-Some.value (sym c.in-Some.ensures.value), c.requires.small)

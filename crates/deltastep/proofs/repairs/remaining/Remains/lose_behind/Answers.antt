@@ -1,10 +1,10 @@
-use Rattle.std.proofs.Common.{◌≡◌, ◌∙◌, List, sym, ap, subst}
+use Rattle.std.proofs.Common.{◌∙◌, List, sym, ap, subst}
 use Rattle.roadnet.specs.Walks.{distance_at}
 use Rattle.snapshot.specs.declared.legs.Leg.{Leg}
 use Rattle.snapshot.specs.declared.legs.Part.TheVariants.{Light, Heavy}
 use Rattle.deltastep.specs.Repair.{LeadToLost}
 use Rattle.deltastep.proofs.Thinning.{Thins-on, LeadToLost-on, IsSpread-parts, heads_are_nodes}
-use Rattle.deltastep.proofs.repairs.repairing.Remains.lose_behind.Goals as goal
+use Rattle.deltastep.proofs.repairs.remaining.Remains.lose_behind.Goals as goal
 
 pub lose_heads-requires : goal.lose_heads-requires
 lose_heads-requires c = record { heads = heads_are_nodes c.args.after.now c.args.self.now.tentative Light c.args.node c.legs.result.now c.legs.ensures.grouped c.requires.places c.legs.ensures.value }

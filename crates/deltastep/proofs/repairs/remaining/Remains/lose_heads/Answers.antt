@@ -1,9 +1,9 @@
-use Rattle.std.proofs.Common.{◌≡◌, ◌+◌, ◌<◌, ◌≤◌, take, length, get_or, Some, arith}
+use Rattle.std.proofs.Common.{◌≡◌, ◌+◌, ◌<◌, ◌≤◌, take, length, Some, arith}
 use Rattle.roadnet.specs.Walks.{distance_at}
 use Rattle.snapshot.specs.declared.legs.Leg.{Leg}
 use Rattle.deltastep.specs.Repair.{IsLost}
 use Rattle.deltastep.proofs.Thinning.{Thins-on, LeadToLost-on, All-take_more, All-of_take}
-use Rattle.deltastep.proofs.repairs.repairing.Remains.lose_heads.Goals as goal
+use Rattle.deltastep.proofs.repairs.remaining.Remains.lose_heads.Goals as goal
 
 pub loop-leg-preserved : goal.loop-leg-preserved
 loop-leg-preserved c =

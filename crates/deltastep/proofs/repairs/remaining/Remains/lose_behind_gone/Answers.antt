@@ -1,10 +1,10 @@
-use Rattle.std.proofs.Common.{◌≡◌, ◌∙◌, List, sym, ap, subst}
+use Rattle.std.proofs.Common.{◌∙◌, List, sym, ap, subst}
 use Rattle.roadnet.specs.Walks.{distance_at}
 use Rattle.snapshot.specs.declared.legs.Leg.{Leg}
 use Rattle.snapshot.specs.declared.legs.Part.TheVariants.{Light, Heavy}
 use Rattle.deltastep.specs.Repair.{AreThereOrLost}
 use Rattle.deltastep.proofs.Thinning.{Thins-on, AreThereOrLost-on, AreGoneLost-parts, heads_are_nodes}
-use Rattle.deltastep.proofs.repairs.repairing.Remains.lose_behind_gone.Goals as goal
+use Rattle.deltastep.proofs.repairs.remaining.Remains.lose_behind_gone.Goals as goal
 
 pub lose_gone_heads-requires : goal.lose_gone_heads-requires
 lose_gone_heads-requires c = record { heads = heads_are_nodes c.args.before.now c.args.self.now.tentative Light c.args.node c.legs.result.now c.legs.ensures.grouped c.requires.places c.legs.ensures.value }

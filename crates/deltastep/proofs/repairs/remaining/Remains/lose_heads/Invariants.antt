@@ -1,6 +1,6 @@
 use Rattle.std.proofs.Common.{take}
 use Rattle.deltastep.specs.Repair.{LeadToLost, Thins}
-use Rattle.deltastep.proofs.repairs.repairing.Remains.lose_heads.Given as goal
+use Rattle.deltastep.proofs.repairs.remaining.Remains.lose_heads.Given as goal
 
 abbrev pub invariant-loop-leg : goal.invariant-loop-leg
 invariant-loop-leg l = record {

@@ -1,6 +1,6 @@
 use Rattle.std.proofs.Common.{All, take}
 use Rattle.deltastep.specs.Repair.{IsClosedBut, IsSpread, Thins}
-use Rattle.deltastep.proofs.repairs.repairing.Remains.spread.Given as goal
+use Rattle.deltastep.proofs.repairs.remaining.Remains.spread.Given as goal
 
 abbrev pub invariant-loop-place : goal.invariant-loop-place
 invariant-loop-place l = record {

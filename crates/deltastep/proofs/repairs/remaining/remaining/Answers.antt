@@ -3,8 +3,8 @@ use Rattle.deltastep.specs.Repair.{IsKeptOf, Thins}
 use Rattle.deltastep.proofs.Phases.{on_true}
 use Rattle.deltastep.proofs.Thinning.{IsThinner-on, Thins-on}
 use Rattle.deltastep.proofs.Remaining.{AreListed-of, IsRowIn, IsRowIn-of, IsKeptOf-thinner, IsClosedBut-first, IsSearch-remaining, AreReached-remaining, AreGoneLost-all}
-use Rattle.deltastep.proofs.repairs.repairing.remaining.Goals as goal
-use Rattle.deltastep.proofs.repairs.repairing.remaining.Goals.{In_ok-spread}
+use Rattle.deltastep.proofs.repairs.remaining.remaining.Goals as goal
+use Rattle.deltastep.proofs.repairs.remaining.remaining.Goals.{In_ok-spread}
 
 pub spread-requires-clause-closed : goal.spread-requires-clause-closed
 spread-requires-clause-closed c =

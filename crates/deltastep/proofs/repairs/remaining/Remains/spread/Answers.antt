@@ -1,6 +1,6 @@
 use Rattle.std.proofs.Common.{◌<◌, ◌≤◌, length, arith}
 use Rattle.deltastep.proofs.Thinning.{Thins-on, IsClosedBut-next, IsClosedBut-over, All-spread_next}
-use Rattle.deltastep.proofs.repairs.repairing.Remains.spread.Goals as goal
+use Rattle.deltastep.proofs.repairs.remaining.Remains.spread.Goals as goal
 
 pub loop-place-preserved : goal.loop-place-preserved
 loop-place-preserved c =

@@ -1,6 +1,6 @@
 use Rattle.std.proofs.Common.{take, All}
 use Rattle.deltastep.specs.Repair.{AreGoneLost, Thins}
-use Rattle.deltastep.proofs.repairs.repairing.Remains.lose_changed.Given as goal
+use Rattle.deltastep.proofs.repairs.remaining.Remains.lose_changed.Given as goal
 
 abbrev pub invariant-loop-node : goal.invariant-loop-node
 invariant-loop-node l = record {

@@ -1,7 +1,7 @@
-use Rattle.std.proofs.Common.{◌≡◌, ℕ, ◌+◌, ◌<◌, ◌≤◌, take, length, get_or, arith}
+use Rattle.std.proofs.Common.{◌<◌, ◌≤◌, take, length, get_or, arith}
 use Rattle.deltastep.specs.Repair.{AreGoneLost}
 use Rattle.deltastep.proofs.Thinning.{Thins-on, AreGoneLost-on, All-take_more, All-of_take}
-use Rattle.deltastep.proofs.repairs.repairing.Remains.lose_changed.Goals as goal
+use Rattle.deltastep.proofs.repairs.remaining.Remains.lose_changed.Goals as goal
 
 pub loop-node-preserved : goal.loop-node-preserved
 loop-node-preserved c =

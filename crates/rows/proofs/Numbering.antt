@@ -124,6 +124,10 @@ grouped_back whole turned back ok grouped snapshot nodes delta is =
     record { nodes = same; tails = λ older groups of legs keeps. AreTails-numbered older groups back of legs (numbers older keeps); numbers = numbers }
 
 -- ---- where arcs were laid
+pub laid-among : (new : Net) (n : ℕ) → IsNetwork new → All (IsArcAmong new.nodes) (drop n (numbered_from 1 new.arcs))
+laid-among new n ok k d h =
+    subst (IsArcAmong new.nodes) (sym (get_or-drop n (numbered_from 1 new.arcs) k d)) ((IsNetwork-numbered new ok).each_arc (n + k) d (omega (arith, h, length-drop n (numbered_from 1 new.arcs))))
+
 module _ (old new : Net) (ok : IsNetwork new) (keeps : KeepsEnds old new) (back more : Groups) (leads : LeadsBack old back) (laid : List RoadArc) (is : laid ≡ drop (length old.arcs) (numbered_from 1 new.arcs)) (nodes : more.nodes ≡ back.nodes) (short : All (λ arc. arc.length ≤ back.delta) laid) (legs : (part : Part) (u : ℕ) → legs_of more part u ≡ legs_of back part u ++ legs_in laid back.delta part u) where
   -- an arc that was there, by what it is in the newer network
   earlier : (p : ℕ) (arc : RoadArc) → arc_at new (suc p) ≡ Some arc → p < length old.arcs → Contains (legs_of more Light arc.head) (numbered_leg (suc p) arc)

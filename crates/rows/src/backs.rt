@@ -22,11 +22,12 @@ fn numbered(number: u32, arc: RoadArc) -> RoadArc
 }
 
 /// A network of which each arc is read the other way round, open, with its number in place of its length.
-struct Numbered<'a> {
+#[derive(Drop)]
+struct WithNumbers<'a> {
     network: &'a SharedNetwork,
 }
 
-impl Roads for Numbered<'_> {
+impl Roads for WithNumbers<'_> {
     ghost use Rattle.rows.specs.Backs.{numbered_back};
 
     ghost network = { λ roads. numbered_back roads.network.now };
@@ -43,7 +44,8 @@ impl Roads for Numbered<'_> {
 
     #[inline(always)]
     fn arc_at_place(&self, place: usize) -> RoadArc {
-        numbered(place as u32 + 1, *self.network.arcs().get(place))
+        let arc = *self.network.arcs().get(place);
+        numbered(place as u32 + 1, arc)
     }
 }
 
@@ -53,7 +55,7 @@ impl Roads for Numbered<'_> {
 pub fn numbered_back(alloc: Global, network: &SharedNetwork) -> Result<Snapshot, OutOfMemory>
     ensures { IfOk result (LeadsBack network.now) }
 {
-    let back = Snapshot::build(alloc, &Numbered { network }, LONGEST_ARC)?;
+    let back = Snapshot::build(alloc, &WithNumbers { network }, LONGEST_ARC)?;
     let _nodes = network.nodes();
     let _grouped = back.nodes();
     Ok(back)
@@ -68,7 +70,7 @@ fn numbered_arcs(
     requires { first ≤ length network.now.arcs }
     ensures { IfOk result (λ all. all.items ≡ drop first (numbered_from 1 network.now.arcs)) }
 {
-    let roads = Numbered { network };
+    let roads = WithNumbers { network };
     let mut all = Vec::new(alloc);
     for place in first..roads.arc_count() {
         all.push(roads.arc_at_place(place))?;

@@ -15,6 +15,7 @@ use std::alloc::Global;
 pub const WIDEST: u32 = 2_147_483_647;
 
 /// A network of which each arc is read the other way round.
+#[derive(Drop)]
 struct Reversed<'a> {
     network: &'a SharedNetwork,
 }

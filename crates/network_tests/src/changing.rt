@@ -1,5 +1,5 @@
-use fixtures::{arc, six};
-use roadnet::{Command, Group, LONGEST_ARC, Refusal};
+use fixtures::six;
+use roadnet::{Command, Group, Refusal};
 use shared_network::SharedNetwork;
 use snapshot::{ArcIndex, Part, Snapshot, changed_arcs, tails_of};
 use std::alloc::Global;
@@ -38,42 +38,4 @@ fn closed(alloc: Global) -> Result<(usize, usize, (usize, bool)), Refusal> {
 fn snapshot_after_a_change(rt: HostRuntime) {
     let found = closed(rt.alloc()).expect(&rt, "the group is admitted");
     assert!(rt; found == (1, 1, (7, true)));
-}
-
-/// Arc 9, from node 4 to node 1.
-const LAID: Command = Command::Lay {
-    tail: 4,
-    head: 1,
-    length: 3,
-};
-
-/// How many legs the snapshot after an arc was laid has, by the index that follows from the older one, and whether one made anew has the same; and this of the
-/// older snapshot with that arc.
-fn laid(alloc: Global) -> Result<[(usize, bool); 2], Refusal> {
-    let Ok(six) = six(alloc)?.with_room(9) else {
-        return Err(Refusal::TooLarge);
-    };
-    let older = SharedNetwork::of(alloc, &six)?;
-    let group = Group::one(LAID);
-    let newer = older.after(alloc, from_ref(&group))?;
-    let numbers = changed_arcs(alloc, &older, &newer, from_ref(&group))?;
-    let index = ArcIndex::build(alloc, &older)?;
-    let index = index.after(alloc, &older, &newer)?;
-    let before = Snapshot::build(alloc, &older, LONGEST_ARC)?;
-    let after = before.after(alloc, &newer, &index, &numbers)?;
-    let anew = Snapshot::build(alloc, &newer, LONGEST_ARC)?;
-    if before.nodes() < 4 {
-        return Err(Refusal::NoSuchNode);
-    }
-    match before.with_arcs(alloc, &[arc(4, 1, 3)])? {
-        Some(more) => Ok([compare(&after, &anew), compare(&more, &anew)]),
-        None => Err(Refusal::LengthRange),
-    }
-}
-
-/// Each has the eight legs of before and the new one.
-#[test]
-fn snapshots_after_an_arc_was_laid(rt: HostRuntime) {
-    let found = laid(rt.alloc()).expect(&rt, "the group is admitted");
-    assert!(rt; found == [(9, true), (9, true)]);
 }

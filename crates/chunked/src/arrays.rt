@@ -24,7 +24,7 @@ impl<T> Model for ChunkedArray<T> {
 }
 
 impl<T: Copy + Drop> ChunkedArray<T> {
-    ghost use Rattle.std.specs.Prelude.{◌≡◌, ◌≤◌, ◌<◌, ◌+◌, ◌*◌, ◌%◌, ◌^◌, ◌++◌, [], ◌∷◌, length, IfOk, OnOk, OnErr, slice_index_or, slice_set};
+    ghost use Rattle.std.specs.Prelude.{◌≡◌, ◌≤◌, ◌<◌, ◌+◌, ◌*◌, ◌^◌, ◌++◌, [], ◌∷◌, length, IfOk, OnOk, OnErr, slice_index_or, slice_set};
     ghost use Rattle.chunked.specs.Chunks.{chunk_of, chunk_count};
 
     /// These items.
@@ -116,23 +116,6 @@ impl<T: Copy + Drop> ChunkedArray<T> {
         let chunk = Chunk::filled(alloc, value)?;
         self.chunks.push(Arc::new(alloc, chunk)?)?;
         self.len = place + 1;
-        Ok(())
-    }
-
-    /// Adds the next items, 1 to 1,024, behind items that fill their chunks. The one error is want of memory, and the array is as it was.
-    pub fn append(&mut self, items: &[T]) -> Result<(), AllocError>
-        requires whole { length self.old % 1024 ≡ 0 }
-        requires room { length self.old < 2 ^ 48 }
-        requires some { 0 < length items.now }
-        requires few { length items.now ≤ 1024 }
-        ensures ok { OnOk result (self.new ≡ self.old ++ items.now) }
-        ensures err { OnErr result (self.new ≡ self.old) }
-    {
-        let alloc = *self.chunks.allocator();
-        let chunk = Arc::new(alloc, Chunk::beginning(alloc, items)?)?;
-        self.chunks.truncate(self.len / CHUNK);
-        self.chunks.push(chunk)?;
-        self.len += items.len();
         Ok(())
     }
 }

@@ -3,6 +3,8 @@
 
 mod arrays;
 mod chunks;
+mod words;
 
 pub use arrays::ChunkedArray;
 pub use chunks::CHUNK;
+pub use words::{ChunkedWords, WordTable};

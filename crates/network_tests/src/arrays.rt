@@ -1,4 +1,4 @@
-use chunked::ChunkedArray;
+use chunked::{ChunkedArray, ChunkedWords};
 use std::alloc::{AllocError, Global};
 
 /// What threads may share and send.
@@ -61,22 +61,27 @@ fn one_more_item(rt: HostRuntime) {
     assert!(rt; pushed(rt.alloc(), 1024) == Ok((1025, 2, 1023, 8)));
 }
 
-/// The number of items and of chunks after two items behind a whole chunk, and the items around its end.
-fn appended(alloc: Global) -> Result<(usize, usize, u32, u32), AllocError> {
-    let mut array = ChunkedArray::from_slice(alloc, &numbers(alloc, 1024)?)?;
-    if array.len() != 1024 {
+/// How many words there are after two more behind a whole chunk, the last of that chunk, the same of a version in which another one stands there, and the last.
+fn appended(alloc: Global) -> Result<(usize, u32, u32, u32), AllocError> {
+    let mut words = ChunkedWords::with_capacity(alloc, 1026)?;
+    words.append(&[7; 1024])?;
+    if words.len() != 1024 {
         return Ok((0, 0, 0, 0));
     }
-    array.append(&[5, 6])?;
-    Ok((
-        array.len(),
-        array.chunk_count(),
-        *array.get(1023),
-        *array.get(1025),
-    ))
+    words.append(&[5, 6])?;
+    let mut version = words.share()?;
+    if version.len() != 1026 {
+        return Ok((0, 0, 0, 0));
+    }
+    version.set(1023, 8)?;
+    if !passes(&version) || words.len() != 1026 || version.len() != 1026 {
+        return Ok((0, 0, 0, 0));
+    }
+    let last = words.table().get(1025);
+    Ok((words.len(), words.get(1023), version.get(1023), last))
 }
 
 #[test]
-fn more_items_behind_whole_chunks(rt: HostRuntime) {
-    assert!(rt; appended(rt.alloc()) == Ok((1026, 2, 1023, 6)));
+fn more_words_behind_whole_chunks(rt: HostRuntime) {
+    assert!(rt; appended(rt.alloc()) == Ok((1026, 7, 8, 6)));
 }

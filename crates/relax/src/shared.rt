@@ -1,7 +1,7 @@
 //! Tentative values in the words of a row.
 
 use crate::known::Known;
-use chunked::ChunkedArray;
+use chunked::ChunkedWords;
 use std::alloc::AllocError;
 use std::marker::Model;
 
@@ -12,7 +12,7 @@ const NO_SHORT_VALUE: u32 = u32::MAX;
 /// may share: a chunk is copied when a word of it is written first, so that it takes memory only for what is written.
 #[derive(Drop)]
 pub struct SharedTentative {
-    words: ChunkedArray<u32>,
+    words: ChunkedWords,
 }
 
 impl Model for SharedTentative {
@@ -29,7 +29,7 @@ impl SharedTentative {
     ghost use Rattle.relax.specs.Values.{value_at, no_short_value, value_of_short};
 
     /// The values of these words, from node 1 on. 2^32 - 1 means no value. It takes no memory.
-    pub fn from_words(words: ChunkedArray<u32>) -> SharedTentative
+    pub fn from_words(words: ChunkedWords) -> SharedTentative
         ensures { result ≡ None ∷ map value_of_short words }
     {
         SharedTentative { words }
@@ -41,7 +41,7 @@ impl SharedTentative {
         requires node { (1 ≤ node) × (node < length self.now) }
         ensures value { result ≡ value_at self.now node }
     {
-        let word = *self.words.get(node as usize - 1);
+        let word = self.words.get(node as usize - 1);
         if word == NO_SHORT_VALUE {
             return None;
         }
@@ -68,7 +68,7 @@ impl SharedTentative {
     }
 
     /// The values as words, from node 1 on. 2^32 - 1 means no value.
-    pub fn into_words(self) -> ChunkedArray<u32>
+    pub fn into_words(self) -> ChunkedWords
         ensures words { self ≡ None ∷ map value_of_short result }
     {
         self.words

@@ -20,7 +20,7 @@ potential_of rows target u = fold max 0 (map (λ row. potential_by row.distances
 
 -- the same by the words of a row, and the length of the way to the target
 abbrev pub told_toward : Toward → ℕ → ℕ
-told_toward toward u = unwrap_or (difference_of (distance_at (map distance_of_short toward.words.now) u) (Some toward.to_target)) 0
+told_toward toward u = unwrap_or (difference_of (distance_at (map distance_of_short toward.words) u) (Some toward.to_target)) 0
 
 abbrev pub potential_toward : List Toward → ℕ → ℕ
 potential_toward towards u = fold max 0 (map (λ toward. told_toward toward u) towards)

@@ -13,7 +13,7 @@ ghost use Rattle.rows.specs.Guides.{AreRowsAlike, AreOfSnapshot, PotentialAtTarg
 
 use crate::landmark_rows::Row;
 use crate::views::View;
-use chunked::ChunkedArray;
+use chunked::WordTable;
 use deltastep::{Guide, RowError, Workspace, distance_to_in, values_guided_in};
 use kept_rows::told_by;
 use relax::{Team, Tentative};
@@ -87,18 +87,18 @@ fn leads(row: &Row, target: u32, source: u32, least: u64) -> bool
 /// A row that is kept in words of 4 bytes, and the length of the landmark's way to a target, or 0 if no walk leads there.
 #[derive(Drop)]
 struct Toward<'a> {
-    words: &'a ChunkedArray<u32>,
+    words: WordTable<'a>,
     to_target: u32,
 }
 
 /// The length that such words have for a node, or 0 if they say that no walk leads there.
-fn length_to(words: &ChunkedArray<u32>, node: u32) -> u32
+fn length_to(words: &WordTable, node: u32) -> u32
     ensures { result ≡ unwrap_or (distance_at (map distance_of_short words.now) node) 0 }
 {
     if node == 0 || node as usize > words.len() {
         return 0;
     }
-    let word = *words.get((node - 1) as usize);
+    let word = words.get((node - 1) as usize);
     if word == u32::MAX {
         return 0;
     }
@@ -107,13 +107,14 @@ fn length_to(words: &ChunkedArray<u32>, node: u32) -> u32
 
 /// A row as it is read for a target, if it is kept in words of 4 bytes.
 fn toward_of<'a>(row: &'a Row, target: u32) -> Option<Toward<'a>>
-    ensures words { IfSome result (λ toward. row.now.distances ≡ map distance_of_short toward.words.now) }
-    ensures to_target { IfSome result (λ toward. toward.to_target ≡ unwrap_or (distance_at (map distance_of_short toward.words.now) target) 0) }
+    ensures words { IfSome result (λ toward. row.now.distances ≡ map distance_of_short toward.words) }
+    ensures to_target { IfSome result (λ toward. toward.to_target ≡ unwrap_or (distance_at (map distance_of_short toward.words) target) 0) }
 {
     let Some(words) = row.distances.short_words() else {
         return None;
     };
-    let to_target = length_to(words, target);
+    let words = words.table();
+    let to_target = length_to(&words, target);
     Some(Toward { words, to_target })
 }
 
@@ -143,7 +144,7 @@ fn towards_of<'a>(
 
 /// How many words each of these rows has at least.
 fn shortest_of(towards: &[Toward]) -> usize
-    ensures { All (λ toward. result ≤ length toward.words.now) towards.now }
+    ensures { All (λ toward. result ≤ length toward.words) towards.now }
 {
     let mut shortest: usize = usize::MAX;
     for toward in towards {
@@ -157,7 +158,7 @@ fn shortest_of(towards: &[Toward]) -> usize
 struct Leaders<'a> {
     towards: Vec<Toward<'a>>,
     shortest: usize,
-    ghost long: { All (λ toward. shortest ≤ length toward.words.now) towards.items },
+    ghost long: { All (λ toward. shortest ≤ length toward.words) towards.items },
 }
 
 /// The rows with the greatest bounds at the source, as they are read for a target.
@@ -174,18 +175,18 @@ fn leaders_of<'a>(alloc: Global, rows: &'a [Row], target: u32, source: u32) -> O
 /// The bound that a row gives for a node that it has a word for: by how much the way to the target is longer, or 0.
 #[inline(always)]
 fn told_toward(toward: &Toward, node: u32) -> u32
-    requires node { (1 ≤ node) × (node ≤ length toward.now.words.now) }
+    requires node { (1 ≤ node) × (node ≤ length toward.now.words) }
     ensures { result ≡ told_toward toward.now node }
 {
-    let word = *toward.words.get((node - 1) as usize);
-    toward.to_target.saturating_sub(word)
+    let word = toward.words.get((node - 1) as usize);
+    toward.to_target.max(word) - word
 }
 
 /// The greatest bound that these rows give for a node that each has a word for.
 #[inline(always)]
 fn potential_toward(towards: &[Toward], node: u32) -> u64
     requires node { 1 ≤ node }
-    requires long { All (λ toward. node ≤ length toward.words.now) towards.now }
+    requires long { All (λ toward. node ≤ length toward.words) towards.now }
     ensures { result ≡ potential_toward towards.now node }
 {
     let mut potential: u32 = 0;

@@ -1,7 +1,7 @@
 ghost use Rattle.std.specs.Prelude.{◌≡◌};
 
 use crate::rows::words::Words;
-use chunked::ChunkedArray;
+use chunked::ChunkedWords;
 use relax::SharedTentative;
 use roadnet::OutOfMemory;
 use std::alloc::{AllocError, Global};
@@ -43,7 +43,7 @@ impl Distances {
     }
 
     /// The words of a row that is kept in words of 4 bytes, from node 1 on. 2^32 - 1 means that no walk leads there. It takes no memory.
-    pub fn short_words(&self) -> Option<&ChunkedArray<u32>>
+    pub fn short_words(&self) -> Option<&ChunkedWords>
         ensures { IfSome result (λ words. self.now ≡ map distance_of_short words.now) }
     {
         self.words.short()

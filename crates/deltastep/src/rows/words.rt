@@ -5,7 +5,7 @@ ghost use Rattle.roadnet.specs.Walks.{distance_at};
 ghost use Rattle.deltastep.specs.Words.{distance_of_short, distance_of_word, distances_of, no_short_walk};
 
 use crate::rows::distances::NO_WALK;
-use chunked::{CHUNK, ChunkedArray};
+use chunked::{CHUNK, ChunkedWords};
 use std::alloc::Global;
 
 /// The word of 4 bytes that means "no walk leads there".
@@ -17,7 +17,7 @@ const MOST_NODES: usize = u32::MAX as usize;
 /// The words of a row, one for each node: of 4 bytes if each least length is below 2^32 - 1, otherwise of 8.
 #[derive(Drop)]
 pub(crate) enum Words {
-    Short(ChunkedArray<u32>),
+    Short(ChunkedWords),
     Long(Vec<u64>),
 }
 
@@ -43,7 +43,7 @@ impl Words {
     }
 
     /// The words of 4 bytes, if the row is kept in such words.
-    pub(crate) fn short(&self) -> Option<&ChunkedArray<u32>>
+    pub(crate) fn short(&self) -> Option<&ChunkedWords>
         ensures { IfSome result (λ words. distances_of self.now ≡ map distance_of_short words.now) }
     {
         match self {
@@ -54,13 +54,13 @@ impl Words {
 }
 
 /// What words of 4 bytes say of a node.
-fn short_at(words: &ChunkedArray<u32>, node: u64) -> Option<u64>
+fn short_at(words: &ChunkedWords, node: u64) -> Option<u64>
     ensures { result ≡ distance_at (map distance_of_short words.now) node }
 {
     if node == 0 || node > words.len() as u64 {
         return None;
     }
-    let word = *words.get((node - 1) as usize);
+    let word = words.get((node - 1) as usize);
     if word == NO_SHORT_WALK {
         return None;
     }
@@ -107,13 +107,13 @@ fn shorten(short: &mut Vec<u32>, words: &[u64]) -> Option<()>
 
 /// The same distances in chunks of words of 4 bytes, if they fit, there is memory, and they are no more than nodes can be. Beside the chunks it takes the memory
 /// of one.
-fn in_chunks(alloc: Global, words: &[u64]) -> Option<ChunkedArray<u32>>
+fn in_chunks(alloc: Global, words: &[u64]) -> Option<ChunkedWords>
     ensures { IfSome result (λ short. map distance_of_short short ≡ map distance_of_word words.now) }
 {
     if words.len() > MOST_NODES {
         return None;
     }
-    let Ok(mut chunks) = ChunkedArray::from_slice(alloc, &[]) else {
+    let Ok(mut chunks) = ChunkedWords::with_capacity(alloc, words.len()) else {
         return None;
     };
     let Ok(mut short) = Vec::with_capacity(alloc, CHUNK.min(words.len())) else {

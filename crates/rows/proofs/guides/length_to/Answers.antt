@@ -4,9 +4,9 @@ use Rattle.deltastep.proofs.Entries.{entry_none, entry_some}
 use Rattle.rows.proofs.guides.length_to.Goals as goal
 
 pub returns-then-word : goal.returns-then-word
-returns-then-word c = ap (λ o. unwrap_or o 0) (entry_none no_short_walk c.args.words.now c.args.node (omega (arith, c.if-node-eq0.false)) (omega (arith, c.if-node-len.false, c.len.ensures)) (c.get-word.ensures.item 0 ∙ c.if-word.true))
+returns-then-word c = ap (λ o. unwrap_or o 0) (entry_none no_short_walk c.args.words.now c.args.node (omega (arith, c.if-node-eq0.false)) (omega (arith, c.if-node-len.false, c.len.ensures)) (c.get-word.ensures.word 0 ∙ c.if-word.true))
 
 pub returns : goal.returns
 returns c =
-    sym (c.get-word.ensures.item 0)
-    ∙ ap (λ o. unwrap_or o 0) (entry_some no_short_walk c.args.words.now c.args.node (omega (arith, c.if-node-eq0.false)) (omega (arith, c.if-node-len.false, c.len.ensures)) (λ e. c.if-word.false (sym (c.get-word.ensures.item 0) ∙ e)))
+    sym (c.get-word.ensures.word 0)
+    ∙ ap (λ o. unwrap_or o 0) (entry_some no_short_walk c.args.words.now c.args.node (omega (arith, c.if-node-eq0.false)) (omega (arith, c.if-node-len.false, c.len.ensures)) (λ e. c.if-word.false (sym (c.get-word.ensures.word 0) ∙ e)))

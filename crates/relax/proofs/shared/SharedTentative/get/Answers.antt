@@ -3,7 +3,7 @@ use Rattle.relax.proofs.Words.{short_at, none_of_short, some_of_short}
 use Rattle.relax.proofs.shared.SharedTentative.get.Goals as goal
 
 pub returns-then-word : goal.returns-then-word
-returns-then-word c = record { value = sym (short_at c.self.inside.words c.args.node c.get-word.result.now c.args.self.now c.self.view_is c.requires.node.0 c.requires.node.1 c.get-word.ensures.item ∙ none_of_short c.get-word.result.now c.if-word.true) }
+returns-then-word c = record { value = sym (short_at c.self.inside.words c.args.node c.get-word.result c.args.self.now c.self.view_is c.requires.node.0 c.requires.node.1 c.get-word.ensures.word ∙ none_of_short c.get-word.result c.if-word.true) }
 
 pub returns : goal.returns
-returns c = record { value = ap (λ w. Some w) c.from.ensures ∙ sym (short_at c.self.inside.words c.args.node c.get-word.result.now c.args.self.now c.self.view_is c.requires.node.0 c.requires.node.1 c.get-word.ensures.item ∙ some_of_short c.get-word.result.now c.if-word.false) }
+returns c = record { value = ap (λ w. Some w) c.from.ensures ∙ sym (short_at c.self.inside.words c.args.node c.get-word.result c.args.self.now c.self.view_is c.requires.node.0 c.requires.node.1 c.get-word.ensures.word ∙ some_of_short c.get-word.result c.if-word.false) }

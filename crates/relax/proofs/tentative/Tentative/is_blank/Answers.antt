@@ -1,4 +1,4 @@
-use Rattle.std.proofs.Common.{◌≡◌, ◌∙◌, ◌∷◌, ◌+◌, ℕ, None, map, length, sym, arith}
+use Rattle.std.proofs.Common.{◌≡◌, ◌∙◌, ◌∷◌, ◌+◌, None, map, length, sym, arith}
 use Rattle.std.proofs.lemmas.List.{length-map}
 use Rattle.relax.specs.Values.{value_of_word}
 use Rattle.relax.specs.Noted.{AreNoted}

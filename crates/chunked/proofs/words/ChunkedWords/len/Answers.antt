@@ -1,0 +1,7 @@
+use Rattle.std.proofs.Common.{sym}
+use Rattle.chunked.proofs.Items.{length-items}
+use Rattle.chunked.proofs.OfChunks.{words_of, full_words}
+use Rattle.chunked.proofs.words.ChunkedWords.len.Goals as goal
+
+pub returns : goal.returns
+returns c = rw (← c.self.view_is) (sym (length-items words_of full_words c.self.inside.chunks.items c.self.inside.len c.self.invariant))

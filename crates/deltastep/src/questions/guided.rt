@@ -232,6 +232,9 @@ impl<Q: BucketQueue> KeyedSearch<Q> {
         ensures span { OnOk result (Q.span self.new.buckets ≡ Q.span self.old.buckets) }
     {
         self.relax_part(snapshot, node, Part::Light, start, end, guide)?;
+        if snapshot.is_joined() {
+            return Ok(());
+        }
         self.relax_part(snapshot, node, Part::Heavy, start, end, guide)?;
         Ok(())
     }

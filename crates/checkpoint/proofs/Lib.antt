@@ -1,5 +1,6 @@
 pub mod Ascending
 pub mod Flawless
+pub mod FrozenArcs
 pub mod Joined
 pub mod Loaded
 pub mod Places

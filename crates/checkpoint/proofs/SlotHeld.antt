@@ -48,7 +48,7 @@ words_fit : (nodes : ℕ) (arcs : List RoadArc) → AllByRecursion (IsArcAmong n
 words_fit nodes [] h = tt
 words_fit nodes (arc ∷ arcs) h = (omega (arith, h.0.length_to), words_fit nodes arcs h.1)
 
-short_from : (nodes : ℕ) (arcs : List RoadArc) → AllByRecursion (IsArcAmong nodes) arcs → AllByRecursion (λ arc. arc.length < 2 ^ 31) arcs
+pub short_from : (nodes : ℕ) (arcs : List RoadArc) → AllByRecursion (IsArcAmong nodes) arcs → AllByRecursion (λ arc. arc.length < 2 ^ 31) arcs
 short_from nodes [] h = tt
 short_from nodes (arc ∷ arcs) h = (omega (arith, h.0.length_to), short_from nodes arcs h.1)
 

@@ -9,7 +9,6 @@ use Rattle.disk.specs.Moments.{Elapses, LeavesOnly}
 use Rattle.disk.proofs.Gates.{outside_torn, outside_wider, outside_twice, shut_twice, body_torn}
 use Rattle.disk.proofs.Overwritten.{length-overwritten, overwritten_inside, overwritten_torn}
 use Rattle.disk.proofs.Steps.{started, goes_on, and_then}
-use Rattle.roadnet.specs.declared.arcs.RoadArc.{RoadArc}
 use Rattle.roadnet.specs.Net.{Net}
 use Rattle.pages.specs.declared.header.Header.{Header}
 use Rattle.pages.specs.declared.content.Slot.{Slot}
@@ -129,8 +128,8 @@ module _ {D : Type 0} (content : D → List ℕ) (left : D → List ℕ → Type
 
 -- ---- a page of the buffer
 
-pub length-part : (places i : ℕ) (arcs : List RoadArc) → length (part places i arcs) ≤ places
-length-part places i arcs = omega (arith, length-take places (drop (places * i) arcs))
+pub length-part : {X : Type 0} (places i : ℕ) (xs : List X) → length (part places i xs) ≤ places
+length-part places i xs = omega (arith, length-take places (drop (places * i) xs))
 
 put_overwritten : (at n : ℕ) (xs ys : List ℕ) → n ≡ length ys → put_mid at n xs ys ≡ overwritten xs at ys
 put_overwritten at n xs ys is =

@@ -2,15 +2,19 @@
 #![tactic(auto)]
 
 mod arcs;
+mod frozen;
 mod heads;
 mod laid;
+mod numbers;
+mod parts;
 mod slot_pages;
 mod slots;
 mod words;
 mod writing;
 
 pub use arcs::read_arcs;
+pub use frozen::{Frozen, FrozenNetwork};
 pub use heads::choose;
-pub use slot_pages::part_of;
+pub use parts::part_of;
 pub use slots::load;
 pub use writing::NextCheckpoint;

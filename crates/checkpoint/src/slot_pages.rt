@@ -1,19 +1,17 @@
 // The pages of a slot that is being written.
-ghost use Rattle.std.specs.Prelude.{◌≡◌, ◌≢◌, ◌+◌, ◌*◌, ◌<◌, ◌≤◌, ◌^◌, ◌↔◌, ℕ, length, drop, OnOk};
+ghost use Rattle.std.specs.Prelude.{◌≡◌, ◌≢◌, ◌+◌, ◌*◌, ◌<◌, ◌≤◌, ◌^◌, ◌↔◌, ℕ, length, OnOk};
 ghost use Rattle.disk.specs.Calling.{WritesUnsynced};
 ghost use Rattle.disk.specs.Contents.{overwritten};
 ghost use Rattle.pages.specs.Spelling.{IsHeader, body};
 ghost use Rattle.pages.specs.Layout.{slot_pages};
 ghost use Rattle.pages.specs.Limits.{page_size};
 ghost use Rattle.pagereader.specs.Reading.{HasFileOf};
-ghost use Rattle.storefile.specs.StoreFile.{page, part};
-ghost use Rattle.checkpoint.specs.Writing.{slot_at, slot_gate, words_page, ends_page, slot_page, slot_page_at, slot_byte_at, IsSlotShut, LeavesSlotShut};
+ghost use Rattle.storefile.specs.StoreFile.{page};
+ghost use Rattle.checkpoint.specs.Writing.{slot_at, slot_gate, slot_page, slot_page_at, slot_byte_at, IsSlotShut, LeavesSlotShut};
 
+use crate::frozen::FrozenNetwork;
 use disk::{Disk, DiskError};
-use pages::{
-    ARCS_A_PAGE, GATE_AT, Header, PAGE_SIZE, Slot, WORDS_A_PAGE, encode_arc_page, encode_word_page,
-};
-use roadnet::{Network, RoadArc};
+use pages::{GATE_AT, Header, PAGE_SIZE, Slot};
 
 /// Where the gate of a slot is in the file.
 pub fn gate_at(header: &Header, slot: Slot) -> u64
@@ -21,16 +19,6 @@ pub fn gate_at(header: &Header, slot: Slot) -> u64
     ensures { result ≡ slot_gate header.now slot }
 {
     PAGE_SIZE as u64 * header.head_page(slot) + GATE_AT as u64
-}
-
-/// The arcs of the `i`-th page, if a page has so many places.
-pub fn part_of(arcs: &[RoadArc], i: u64, places: usize) -> &[RoadArc]
-    requires { places ≤ 1023 }
-    ensures { result.now ≡ part places i arcs.now }
-{
-    let from = (i as usize).saturating_mul(places).min(arcs.len());
-    let rest = &arcs[from..];
-    &rest[..places.min(rest.len())]
 }
 
 /// Puts a page at the `i`-th place of the buffer.
@@ -44,42 +32,26 @@ fn put_page(buffer: &mut [u8], i: usize, bytes: &[u8; PAGE_SIZE])
     buffer[from..from + PAGE_SIZE].copy_from_slice(bytes);
 }
 
-/// The arcs after the first ones.
-fn behind(arcs: &[RoadArc], first: usize) -> &[RoadArc]
-    ensures { result.now ≡ drop first arcs.now }
-{
-    &arcs[first.min(arcs.len())..]
-}
-
-/// The `i`-th word page of the network.
-fn words_page(network: &Network, i: u64) -> [u8; PAGE_SIZE]
-    ensures { result ≡ words_page network.now i }
-{
-    encode_word_page(part_of(network.arcs(), i, WORDS_A_PAGE))
-}
-
-/// The `i`-th end page of the network.
-fn ends_page(header: &Header, network: &Network, i: u64) -> [u8; PAGE_SIZE]
-    ensures { result ≡ ends_page header.now network.now i }
-{
-    let laid = behind(network.arcs(), header.arcs as usize);
-    encode_arc_page(part_of(laid, i, ARCS_A_PAGE))
-}
-
 /// The `i`-th page after a slot's head.
-fn page_behind(header: &Header, network: &Network, i: u64) -> [u8; PAGE_SIZE]
+fn page_behind(header: &Header, network: &FrozenNetwork<'_>, i: u64) -> [u8; PAGE_SIZE]
     ensures { result ≡ slot_page header.now network.now i }
 {
     let words = header.word_pages();
     if i < words {
-        words_page(network, i)
+        network.words_page(i)
     } else {
-        ends_page(header, network, i - words)
+        network.ends_page(header, i - words)
     }
 }
 
 /// Puts so many of the pages after a slot's head, from the `first` on, at the front of the buffer.
-pub fn put_pages(buffer: &mut [u8], header: &Header, network: &Network, first: u64, count: usize)
+pub fn put_pages(
+    buffer: &mut [u8],
+    header: &Header,
+    network: &FrozenNetwork<'_>,
+    first: u64,
+    count: usize,
+)
     requires few { first + count ≤ 2 ^ 32 }
     requires room { page_size * count ≤ length buffer.old }
     ensures pages { (i : ℕ) → i < count → page buffer.new i ≡ slot_page header.now network.now (first + i) }

@@ -8,10 +8,10 @@ ghost use Rattle.pagereader.specs.Reading.{HasFileOf};
 ghost use Rattle.storefile.specs.StoreFile.{page};
 ghost use Rattle.checkpoint.specs.Writing.{slot_gate, HoldsPages, IsGateShut, IsSlotShut, LeavesSlotShut, IsDraftWhole, IsDraftShutOrWhole, WhileGoing, OnceWhole};
 
+use crate::frozen::FrozenNetwork;
 use crate::slot_pages::{gate_at, put_pages, write_head, write_pages};
 use disk::{Disk, DiskError, close_gate, open_gate, settle};
 use pages::{Header, PAGE_SIZE, PAGES_AT_ONCE, Slot, encode_slot_head};
-use roadnet::Network;
 use std::alloc::{AllocError, Global};
 use std::marker::Model;
 
@@ -120,7 +120,7 @@ impl NextCheckpoint {
         &mut self,
         disk: &mut D,
         header: &Header,
-        network: &Network,
+        network: &FrozenNetwork<'_>,
         max_pages: u32,
     ) -> Result<(), DiskError>
         requires file { HasFileOf D.Disk header.now disk.old }
@@ -163,7 +163,7 @@ impl NextCheckpoint {
         &self,
         disk: &mut D,
         header: &Header,
-        network: &Network,
+        network: &FrozenNetwork<'_>,
     ) -> Result<(), DiskError>
         requires file { HasFileOf D.Disk header.now disk.old }
         requires none_left { self.now.written ≡ slot_pages header.now }
@@ -178,7 +178,7 @@ impl NextCheckpoint {
             self.epoch,
             self.version,
             self.next_sequence,
-            network.arcs().len() as u32,
+            network.arc_count(),
             network.landmarks(),
         );
         write_head(disk, header, self.slot, &page)?;
@@ -195,7 +195,7 @@ impl NextCheckpoint {
         &mut self,
         disk: &mut D,
         header: &Header,
-        network: &Network,
+        network: &FrozenNetwork<'_>,
         max_pages: u32,
     ) -> Result<bool, DiskError>
         requires file { HasFileOf D.Disk header.now disk.old }
@@ -230,7 +230,7 @@ impl NextCheckpoint {
         &mut self,
         disk: &mut D,
         header: &Header,
-        network: &Network,
+        network: &FrozenNetwork<'_>,
         max_pages: u32,
     ) -> Result<(), DiskError>
         requires file { HasFileOf D.Disk header.now disk.old }
@@ -257,7 +257,7 @@ impl NextCheckpoint {
         &mut self,
         disk: &mut D,
         header: &Header,
-        network: &Network,
+        network: &FrozenNetwork<'_>,
         max_pages: u32,
     ) -> Result<(), DiskError>
         requires file { HasFileOf D.Disk header.now disk.old }
@@ -281,7 +281,7 @@ impl NextCheckpoint {
         &mut self,
         disk: &mut D,
         header: &Header,
-        network: &Network,
+        network: &FrozenNetwork<'_>,
         max_pages: u32,
     ) -> Result<(), DiskError>
         requires file { HasFileOf D.Disk header.now disk.old }

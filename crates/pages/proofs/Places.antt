@@ -20,6 +20,10 @@ use Rattle.pages.proofs.Items.{length-items, length-read, items_read, items_fit,
 pub word_room : (page : List ℕ) (arcs : List RoadArc) (i : ℕ) → length arcs ≤ 1023 → i < length arcs → page ≡ flat_map bytes_of_word (map word_of (take i arcs)) → length page + 4 ≤ 4096
 word_room page arcs i few lt is = omega (arith, ap length is, length-items bytes_of_word 4 (λ x. refl) (map word_of (take i arcs)), length-map (take i arcs) word_of, length-take i arcs)
 
+-- there is room for one more number
+pub number_room : (page : List ℕ) (numbers : List ℕ) (i : ℕ) → length numbers ≤ 1023 → i < length numbers → page ≡ flat_map (big_bytes 4) (take i numbers) → length page + 4 ≤ 4096
+number_room page numbers i few lt is = omega (arith, ap length is, length-items (big_bytes 4) 4 (λ x. refl) (take i numbers), length-take i numbers)
+
 -- there is room for the ends of one more arc
 pub arc_room : (page : List ℕ) (arcs : List RoadArc) (i : ℕ) → length arcs ≤ 511 → i < length arcs → page ≡ flat_map ends_bytes (map ends_of (take i arcs)) → length page + 8 ≤ 4096
 arc_room page arcs i few lt is = omega (arith, ap length is, length-items ends_bytes 8 (λ x. refl) (map ends_of (take i arcs)), length-map (take i arcs) ends_of, length-take i arcs)

@@ -84,9 +84,17 @@ ends_of arc = record { tail = arc.tail; head = arc.head }
 
 -- ---- a word page
 
--- 4 bytes: the length, and the highest bit where the arc is closed
+-- a word as a number: the length, and the highest bit of 32 where the arc is closed
+abbrev pub number_of : Word → ℕ
+number_of w = w.length + (if w.opened then 0 else 2 ^ 31)
+
+-- 4 bytes
 abbrev pub bytes_of_word : Word → List ℕ
-bytes_of_word w = big_bytes 4 (w.length + (if w.opened then 0 else 2 ^ 31))
+bytes_of_word w = big_bytes 4 (number_of w)
+
+-- the page of words that are told as numbers
+abbrev pub page_of_numbers : List ℕ → List ℕ
+page_of_numbers numbers = page_of (flat_map (big_bytes 4) numbers)
 
 abbrev pub word_page : List Word → List ℕ
 word_page words = page_of (flat_map bytes_of_word words)

@@ -20,5 +20,5 @@ pub use journal_page::{JournalPage, MOST_COMMANDS, decode_journal_page, encode_j
 pub use laws::{parts_fill_the_file, spelling_is_one_to_one, worked_pages};
 pub use layout::{ARCS_A_PAGE, PAGES_AT_ONCE, WORDS_A_PAGE, words_on_page};
 pub use slot_head::{MOST_VERSIONS, SlotHead, decode_slot_head, encode_slot_head};
-pub use word_page::{WordPage, decode_word_page, encode_word_page};
+pub use word_page::{WordPage, decode_word_page, encode_numbers, encode_word_page, word_number};
 pub use writer::PAGE_SIZE;

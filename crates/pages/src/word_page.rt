@@ -1,6 +1,6 @@
-ghost use Rattle.std.specs.Prelude.{◌≡◌, ◌+◌, ◌*◌, ◌<◌, ◌≤◌, ◌^◌, length, drop, map, ◌==◌, All, IfOk, if◌then◌else◌};
+ghost use Rattle.std.specs.Prelude.{◌≡◌, ◌+◌, ◌*◌, ◌<◌, ◌≤◌, ◌^◌, length, drop, map, ◌==◌, All, IfOk};
 ghost use Rattle.std.specs.List.{list_all};
-ghost use Rattle.pages.specs.Spelling.{Decodes, SpelledWords, word_page, word_of};
+ghost use Rattle.pages.specs.Spelling.{Decodes, SpelledWords, word_page, word_of, number_of, page_of_numbers};
 ghost use Rattle.pages.specs.Reading.{read_items, read_word};
 
 use crate::content::Word;
@@ -38,9 +38,10 @@ impl WordPage {
     }
 }
 
-fn word_number(arc: &RoadArc) -> u32
+/// The word of an arc as a number: the length, at most 2^31 - 1, and 2^31 more where the arc is closed.
+pub fn word_number(arc: &RoadArc) -> u32
     requires { arc.now.length < 2 ^ 31 }
-    ensures { result ≡ arc.now.length + (if arc.now.opened then 0 else 2 ^ 31) }
+    ensures { result ≡ number_of (word_of arc.now) }
 {
     if arc.opened {
         arc.length
@@ -58,6 +59,18 @@ pub fn encode_word_page(arcs: &[RoadArc]) -> [u8; PAGE_SIZE]
     let mut page = PageWriter::new();
     for arc in arcs {
         page.put_u32(word_number(arc));
+    }
+    page.finish()
+}
+
+/// The page of these words, at most 1,023, each as a number.
+pub fn encode_numbers(numbers: &[u32]) -> [u8; PAGE_SIZE]
+    requires { length numbers.now ≤ 1023 }
+    ensures { result ≡ page_of_numbers numbers.now }
+{
+    let mut page = PageWriter::new();
+    for &number in numbers {
+        page.put_u32(number);
     }
     page.finish()
 }

@@ -16,15 +16,19 @@ use Rattle.storefile.specs.StoreFile.{page, is_open, is_standing, joined, journa
 use Rattle.storefile.specs.Standing.{Standing, standing_of, IsStoredAs, IsTidyAt, HasFitStoreNumbers, LeadsTo, with_other_slot}
 use Rattle.storefile.proofs.JournalWrite.{leads_more}
 use Rattle.storefile.proofs.Meaning.{IsPage, is_page, page_outside, page_spells, page_stands}
-use Rattle.storefile.proofs.OtherSlot.{SameBeside, after_ends, leads_beside, slot_leads_on, slots_keep_tidy}
+use Rattle.storefile.proofs.OtherSlot.{SameBeside, SameFirst, after_ends, first_kept, leads_beside, slot_leads_on, slots_keep_tidy}
 use Rattle.storefile.proofs.PageBytes.{outside_pages, same_but}
 use Rattle.storefile.proofs.Rests.{stored_as, standing_is}
 use Rattle.storefile.proofs.Torn.{head_below}
+use Rattle.checkpoint.specs.declared.frozen.Frozen.{Frozen}
+use Rattle.checkpoint.specs.Frozen.{frozen_net}
 use Rattle.checkpoint.specs.Writing.{Draft, draft_head_of, slot_at, slot_size, slot_gate, slot_page_at, HoldsPages, IsSlotShut, IsSlotWhole, IsSlotShutOrWhole}
+use Rattle.checkpoint.proofs.FrozenArcs.{same_by_ends}
 use Rattle.checkpoint.proofs.SlotHeld.{holds_slot, gate_shut, while_beginning}
 use Rattle.store.specs.declared.paged.going.GoingCheckpoint.{GoingCheckpoint}
 use Rattle.store.specs.Committing.{HasTidyStanding}
-use Rattle.store.specs.Going.{FitsStore, DraftGoesOn, with_one_more}
+use Rattle.store.specs.Going.{FitsStore, DraftGoesOn, FrozenGoesOn, with_one_more}
+use Rattle.store.proofs.ArcsKept.{arcs_grow}
 use Rattle.store.proofs.Checkpointed.{still_stands, shut_told, shut_tidily, shut_stands, nodes_told, room_told}
 use Rattle.store.proofs.Committed.{Follow, are_records, page_body}
 
@@ -42,7 +46,21 @@ begins content h draft net version next none same_version same_next is from clos
   leads = record { held = tt; network = refl; version_is = omega (arith, same_version); next_is = omega (arith, same_next) };
 }
 
+pub frozen_begins : (content : List ℕ) (h : Header) (g : GoingCheckpoint) (net : Net) (version next : ℕ) → g.next.written ≡ 0 → g.next.version ≡ version → g.next.next_sequence ≡ next → g.committed ≡ 0
+    → frozen_net g.frozen net ≡ net → length g.frozen.numbers.items ≡ length net.arcs → IsNetwork net → h.arcs ≤ length net.arcs → (IsGateOpen (slot_gate h g.next.slot) content → ⊥) → FrozenGoesOn content h g net version next
+frozen_begins content h g net version next none same_version same_next fresh same whole is from closed = record {
+  words_to = omega (arith, whole);
+  goes = subst (λ (f : Net). DraftGoesOn content h g.next f g.committed net version next) (sym same)
+      (subst (λ (n : ℕ). DraftGoesOn content h g.next net n net version next) (sym fresh) (begins content h g.next net version next none same_version same_next is from closed));
+}
+
 -- ---- a commit between two parts
+
+-- What is kept of a network tells the same over each network that keeps the ends.
+frozen_same : (frozen : Frozen) (net final : Net) → SameFirst (length frozen.numbers.items) final net → frozen_net frozen final ≡ frozen_net frozen net
+frozen_same frozen net final same =
+    let arcs = same_by_ends net.arcs final.arcs frozen.numbers.items same.ends in
+    λ i. record { nodes = same.nodes i; arcs = arcs i; landmarks = frozen.landmarks.items; room = same.room i }
 
 module _ (old new : List ℕ) (x : Standing) (net : Net) (commands : List (List Command)) (follow : Follow x net commands) where
   pub fits_committed : (going : Option GoingCheckpoint) → IfSome going (λ g. FitsStore x.header x.slot x.epoch x.version x.next x.unchecked g.next g.committed)
@@ -69,9 +87,9 @@ module _ (old new : List ℕ) (x : Standing) (net : Net) (commands : List (List 
     outside = subst (λ (c : List ℕ). SameOutside (4096 * journal_page_at x.header x.next) 4096 old c) (sym is)
         (page_outside old x.header x.version x.next commands (page_body x commands) follow.numbers.header follow.today size wrote)
 
-    goes_on_committed : (g : GoingCheckpoint) → FitsStore x.header x.slot x.epoch x.version x.next x.unchecked g.next g.committed → DraftGoesOn old x.header g.next g.frozen g.committed x.network x.version x.next
-        → DraftGoesOn new x.header g.next g.frozen (g.committed + 1) net (x.version + length commands) (x.next + 1)
-    goes_on_committed g fits goes =
+    draft_committed : (g : GoingCheckpoint) (frozen : Net) → FitsStore x.header x.slot x.epoch x.version x.next x.unchecked g.next g.committed → DraftGoesOn old x.header g.next frozen g.committed x.network x.version x.next
+        → DraftGoesOn new x.header g.next frozen (g.committed + 1) net (x.version + length commands) (x.next + 1)
+    draft_committed g frozen fits goes =
         let below = head_below x.header g.next.slot in
         record {
           closed = λ opened. goes.closed (sym (outside.below (slot_gate x.header g.next.slot) (omega (arith, below))) ∙ opened);
@@ -80,7 +98,7 @@ module _ (old new : List ℕ) (x : Standing) (net : Net) (commands : List (List 
           frozen_from = goes.frozen_from;
           since = goes.since ++ commands ∷ [];
           committed_is = omega (arith, goes.committed_is, length-append goes.since (commands ∷ []));
-          leads = leads_more (page old) (page new) x.header g.frozen x.network net g.next.version g.next.next_sequence x.version x.next goes.since commands goes.leads
+          leads = leads_more (page old) (page new) x.header frozen x.network net g.next.version g.next.next_sequence x.version x.next goes.since commands goes.leads
               (same_but (journal_page_at x.header x.next) old new outside) (omega (arith, fits.next_is, fits.one_before, follow.room))
               (subst (λ (c : List ℕ). is_standing (page c) x.header x.next ≡ true) (sym is) (page_stands old x.header x.version x.next commands (page_body x commands) follow.numbers.header follow.today size wrote))
               (subst (λ (c : List ℕ). SpelledEntry x.header.format (page c (journal_page_at x.header x.next)) (record { sequence = x.next; first_number = x.version + 1; groups = commands })) (sym is)
@@ -88,9 +106,18 @@ module _ (old new : List ℕ) (x : Standing) (net : Net) (commands : List (List 
               follow.goes;
         }
 
+    goes_on_committed : (g : GoingCheckpoint) → FitsStore x.header x.slot x.epoch x.version x.next x.unchecked g.next g.committed → FrozenGoesOn old x.header g x.network x.version x.next
+        → FrozenGoesOn new x.header (with_one_more g) net (x.version + length commands) (x.next + 1)
+    goes_on_committed g fits on = record {
+      words_to = omega (arith, on.words_to, arcs_grow x.network net commands follow.goes);
+      goes = subst (λ (f : Net). DraftGoesOn new x.header g.next f (g.committed + 1) net (x.version + length commands) (x.next + 1))
+          (sym (frozen_same g.frozen x.network net (first_kept (length g.frozen.numbers.items) x.network net on.words_to (after_ends x.network net commands follow.goes))))
+          (draft_committed g (frozen_net g.frozen x.network) fits on.goes);
+    }
+
     pub going_committed : (going : Option GoingCheckpoint) → IfSome going (λ g. FitsStore x.header x.slot x.epoch x.version x.next x.unchecked g.next g.committed)
-        → ∥ IfSome going (λ g. DraftGoesOn old x.header g.next g.frozen g.committed x.network x.version x.next) ∥₁
-        → ∥ IfSome (option_map with_one_more going) (λ g. DraftGoesOn new x.header g.next g.frozen g.committed net (x.version + length commands) (x.next + 1)) ∥₁
+        → ∥ IfSome going (λ g. FrozenGoesOn old x.header g x.network x.version x.next) ∥₁
+        → ∥ IfSome (option_map with_one_more going) (λ g. FrozenGoesOn new x.header g net (x.version + length commands) (x.next + 1)) ∥₁
     going_committed None fits goes = goes
     going_committed (Some g) fits goes = ∥∥₁_map goes (λ on. goes_on_committed g fits on)
 
@@ -217,6 +244,9 @@ from_some {X} P o x e h = let at : IfSome (Some x) P = subst (λ (y : Option X).
 pub some_goes : {X : Type 0} (P : X → Type 0) (o : Option X) (x : X) → Some x ≡ o → ∥ IfSome o P ∥₁ → ∥ P x ∥₁
 some_goes P o x e h = ∥∥₁_map h (λ is. from_some P o x e is)
 
+pub draft_goes : (content : List ℕ) (h : Header) (g : GoingCheckpoint) (frozen net : Net) (version next : ℕ) → frozen ≡ frozen_net g.frozen net → ∥ FrozenGoesOn content h g net version next ∥₁ → ∥ DraftGoesOn content h g.next frozen g.committed net version next ∥₁
+draft_goes content h g frozen net version next is goes = ∥∥₁_map goes (λ on. subst (λ (f : Net). DraftGoesOn content h g.next f g.committed net version next) (sym is) on.goes)
+
 pub words_held : (content : List ℕ) (h : Header) (draft : Draft) (frozen : Net) (committed : ℕ) (net : Net) (version next : ℕ) → ∥ DraftGoesOn content h draft frozen committed net version next ∥₁
     → HoldsPages (page content) h draft.slot frozen draft.written
 words_held content h draft frozen committed net version next goes = ∥∥₁_elim goes (Prim.hlevel props) (λ on. on.pages)
@@ -236,11 +266,10 @@ fits_part h slot epoch version next unchecked draft new committed count is few f
     })
 
 pub goes_part : (old c : List ℕ) (h : Header) (slot : Slot) (draft new : Draft) (count : ℕ) (frozen : Net) (committed : ℕ) (net : Net) (version next : ℕ) → draft.slot ≡ other slot → new ≡ record draft { written = count }
-    → IsSlotShut h draft.slot old c → HoldsPages (page c) h draft.slot frozen new.written → ∥ DraftGoesOn old h draft frozen committed net version next ∥₁ → ∥ DraftGoesOn c h new frozen committed net version next ∥₁
-goes_part old c h slot draft new count frozen committed net version next is_slot is shut words goes =
+    → IsSlotShut h draft.slot old c → HoldsPages (page c) h draft.slot frozen new.written → DraftGoesOn old h draft frozen committed net version next → DraftGoesOn c h new frozen committed net version next
+goes_part old c h slot draft new count frozen committed net version next is_slot is shut words on =
     let held : HoldsPages (page c) h draft.slot frozen count = subst (λ (d : Draft). HoldsPages (page c) h draft.slot frozen d.written) is words in
-    subst (λ (d : Draft). ∥ DraftGoesOn c h d frozen committed net version next ∥₁) (sym is)
-    (∥∥₁_map goes (λ on. goes_on_part old c h slot draft count frozen committed net version next is_slot shut held on))
+    subst (λ (d : Draft). DraftGoesOn c h d frozen committed net version next) (sym is) (goes_on_part old c h slot draft count frozen committed net version next is_slot shut held on)
 
 -- by the fields as they are then
 module _ (c : List ℕ) (x : Standing) (draft : Draft) (committed : ℕ) (slot : Slot) (epoch : ℕ) (same_slot : slot ≡ draft.slot) (same_epoch : epoch ≡ draft.epoch) where

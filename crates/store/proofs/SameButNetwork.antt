@@ -8,7 +8,7 @@ use Rattle.pages.specs.declared.content.Format.TheVariants.{Two}
 use Rattle.storefile.specs.Standing.{HasFitStoreNumbers}
 use Rattle.store.specs.declared.paged.state.Paged.{Paged}
 use Rattle.store.specs.Resting.{IsAtRest}
-use Rattle.store.specs.Going.{FitsStore, DraftGoesOn}
+use Rattle.store.specs.Going.{FitsStore, FrozenGoesOn}
 
 module _ {D : Type 0} {disk : Ghosts D} where
   -- what is known of the pages, with this network in place of theirs
@@ -23,7 +23,7 @@ module _ {D : Type 0} {disk : Ghosts D} where
 
   abbrev pub GoesOnTo : Paged D disk → Net → Type 0
   GoesOnTo s net =
-      s.broken ≡ false → disk.honest s.disk → ∥ IfSome s.going (λ g. DraftGoesOn (disk.content s.disk) s.found.header g.next g.frozen g.committed net s.found.version s.found.next_sequence) ∥₁
+      s.broken ≡ false → disk.honest s.disk → ∥ IfSome s.going (λ g. FrozenGoesOn (disk.content s.disk) s.found.header g net s.found.version s.found.next_sequence) ∥₁
 
   numbers_one : (s : Paged D disk) → IsProp (HasNumbers s)
   numbers_one s = Prim.hlevel props

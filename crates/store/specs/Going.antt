@@ -8,6 +8,7 @@ use Rattle.pages.specs.declared.content.Slot.{Slot}
 use Rattle.pages.specs.Layout.{other, slot_pages}
 use Rattle.storefile.specs.StoreFile.{page}
 use Rattle.storefile.specs.Standing.{LeadsTo}
+use Rattle.checkpoint.specs.Frozen.{frozen_net}
 use Rattle.checkpoint.specs.Writing.{Draft, slot_gate, HoldsPages}
 use Rattle.store.specs.declared.paged.going.GoingCheckpoint.{GoingCheckpoint}
 use Rattle.store.specs.declared.paged.parts.Part.{Part}
@@ -77,3 +78,8 @@ pub record DraftGoesOn (content : List ℕ) (h : Header) (draft : Draft) (frozen
   pub since : List (List (List Command))
   pub committed_is : committed ≡ length since
   pub leads : LeadsTo (page content) h frozen draft.version draft.next_sequence since net version next
+
+-- The same of what is kept of the frozen network: it has a word for no arc that today's network lacks.
+pub record FrozenGoesOn (content : List ℕ) (h : Header) (g : GoingCheckpoint) (net : Net) (version next : ℕ) : Type 0 where
+  pub words_to : length g.frozen.numbers.items ≤ length net.arcs
+  pub goes : DraftGoesOn content h g.next (frozen_net g.frozen net) g.committed net version next

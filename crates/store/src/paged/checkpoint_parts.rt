@@ -10,12 +10,12 @@ ghost use Rattle.store.specs.PagedCalls.{KeepsDurable, TellsFailures, RefusesChe
 use crate::paged::going::GoingCheckpoint;
 use crate::paged::parts::Part;
 use crate::paged::state::Paged;
-use checkpoint::NextCheckpoint;
+use checkpoint::{Frozen, FrozenNetwork, NextCheckpoint};
 use disk::Disk;
 use roadnet::Refusal;
 
 impl<D: Disk> Paged<D> {
-    // Begins a checkpoint: freezes the network, and closes the gate of the slot that is not current.
+    // Begins a checkpoint: keeps what it needs of the network as it is, and closes the gate of the slot that is not current.
     pub(crate) fn begin_checkpoint(&mut self) -> Result<(), Refusal>
         requires works { self.old.broken ≡ false }
         requires none { self.old.going ≡ None }
@@ -31,7 +31,7 @@ impl<D: Disk> Paged<D> {
         ensures stands { KeepsStanding result self.old self.new }
         ensures as_told { KeepsAsTold result self.old self.new }
     {
-        let Ok(frozen) = self.found.network.copy() else {
+        let Ok(frozen) = Frozen::of(self.alloc, &self.found.network) else {
             return Err(Refusal::OutOfMemory);
         };
         let Ok(next) = NextCheckpoint::new(
@@ -79,9 +79,10 @@ impl<D: Disk> Paged<D> {
             return Err(Refusal::Device);
         };
         let mut going = going;
+        let network = FrozenNetwork::new(&going.frozen, &self.found.network);
         let Ok(whole) = going
             .next
-            .go_on(&mut self.disk, &self.found.header, &going.frozen, pages)
+            .go_on(&mut self.disk, &self.found.header, &network, pages)
         else {
             self.broken = true;
             self.going = Some(going);

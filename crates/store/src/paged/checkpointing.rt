@@ -7,6 +7,7 @@ ghost use Rattle.store.specs.Durable.{told_by, going_of, begun_progress, has_all
 ghost use Rattle.store.specs.PagedCalls.{KeepsDurable, TellsFailures, RefusesCheckpoint, KeepsStanding, KeepsAsTold, LeavesFor, StaysFor};
 
 use crate::paged::state::Paged;
+use checkpoint::FrozenNetwork;
 use disk::Disk;
 use pages::PAGES_AT_ONCE;
 use roadnet::Refusal;
@@ -34,10 +35,11 @@ impl<D: Disk> Paged<D> {
             return Err(Refusal::Device);
         };
         let mut going = going;
+        let network = FrozenNetwork::new(&going.frozen, &self.found.network);
         let Ok(()) = going.next.complete(
             &mut self.disk,
             &self.found.header,
-            &going.frozen,
+            &network,
             PAGES_AT_ONCE as u32,
         )
         else {

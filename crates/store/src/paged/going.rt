@@ -2,16 +2,15 @@
 ghost use Rattle.std.specs.Prelude.{◌≡◌, ◌+◌, ◌<◌, ◌^◌, IfSome, option_map};
 ghost use Rattle.store.specs.Going.{with_one_more};
 
-use checkpoint::NextCheckpoint;
-use roadnet::Network;
+use checkpoint::{Frozen, NextCheckpoint};
 
 /// A checkpoint that is going.
 #[derive(Drop)]
 pub struct GoingCheckpoint {
     /// What is written of it.
     pub next: NextCheckpoint,
-    /// The durable network, as it was when the checkpoint began.
-    pub frozen: Network,
+    /// What is kept of the durable network as it was when the checkpoint began.
+    pub frozen: Frozen,
     /// How many pages of the journal were committed since.
     pub committed: u32,
 }

@@ -4,7 +4,7 @@ ghost use Rattle.std.proofs.Props.{props};
 ghost use Rattle.pages.specs.declared.content.Format.TheVariants.{Two as two};
 ghost use Rattle.storefile.specs.Standing.{HasFitStoreNumbers};
 ghost use Rattle.store.specs.Resting.{IsAtRest};
-ghost use Rattle.store.specs.Going.{FitsStore, DraftGoesOn};
+ghost use Rattle.store.specs.Going.{FitsStore, FrozenGoesOn};
 
 use crate::opened::found::Found;
 use crate::paged::going::GoingCheckpoint;
@@ -27,5 +27,5 @@ pub struct Paged<D: Disk> {
     ghost arcs_from: { found.header.arcs ≤ length found.network.arcs },
     ghost rests: { broken ≡ false → D.honest disk → IsAtRest (D.content disk) (D.left disk) found.header },
     ghost fits: { IfSome going (λ g. FitsStore found.header found.slot found.epoch found.version found.next_sequence found.unchecked g.next g.committed) } by { Prim.hlevel props },
-    ghost goes_on: { broken ≡ false → D.honest disk → ∥ IfSome going (λ g. DraftGoesOn (D.content disk) found.header g.next g.frozen g.committed found.network found.version found.next_sequence) ∥₁ },
+    ghost goes_on: { broken ≡ false → D.honest disk → ∥ IfSome going (λ g. FrozenGoesOn (D.content disk) found.header g found.network found.version found.next_sequence) ∥₁ },
 }

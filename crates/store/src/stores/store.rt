@@ -24,7 +24,7 @@ use std::snapshot::Snapshot;
 
 /// A network that is kept on a disk.
 ///
-/// It takes the network, and a few numbers; while a checkpoint is going, also a copy of the network and a buffer of 64 pages.
+/// It takes the network, and a few numbers; while a checkpoint is going, also 4 bytes an arc and a buffer of 64 pages.
 #[derive(Drop)]
 pub struct Store<D: Disk> {
     pub(crate) pages: Paged<D>,

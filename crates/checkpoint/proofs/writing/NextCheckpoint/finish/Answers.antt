@@ -48,8 +48,8 @@ returns-clause-content g c h =
     let then_honest = c.write_head.ensures.writes.honest.1 h in
     let later_honest = c.settle.ensures.reads.honest.1 then_honest in
     let page_is : c.encode_slot_head-page.result ≡ head_page header.format (draft_head_of d net) =
-    c.encode_slot_head-page.ensures ∙ same_head_page header.format d net _ _ (ap length c.arcs.ensures.value) c.landmarks.ensures.value in
-    let long : length (body c.encode_slot_head-page.result) ≡ 4095 = ap (λ (p : List ℕ). length (body p)) page_is ∙ head_body_length header.format (draft_head_of d net) (omega (arith, ap length c.landmarks.ensures.value, c.landmarks.ensures.network.landmarks_to)) in
+    c.encode_slot_head-page.ensures ∙ same_head_page header.format d net _ _ c.arc_count.ensures c.landmarks.ensures.value in
+    let long : length (body c.encode_slot_head-page.result) ≡ 4095 = ap (λ (p : List ℕ). length (body p)) page_is ∙ head_body_length header.format (draft_head_of d net) (omega (arith, ap length c.landmarks.ensures.value, c.landmarks.ensures.few)) in
     let written = (c.settle.ensures.reads.same then_honest).same_content ∙ c.in_ok-write_head.ensures.written h in
     let words : HoldsPages (page old) header c.self.inside.slot net (slot_pages header) =
     subst (λ (n : ℕ). HoldsPages (page old) header c.self.inside.slot net n) c.requires.none_left (subst (λ (x : Draft). HoldsPages (page old) header x.slot net c.args.self.now.written) (sym c.self.view_is) (c.requires.pages h)) in
@@ -70,8 +70,8 @@ returns-clause-writes g c =
     let slot : Slot = c.self.inside.slot in
     let d : Draft = record { slot = c.self.inside.slot; epoch = c.self.inside.epoch; version = c.self.inside.version; next_sequence = c.self.inside.next_sequence; written = c.self.inside.written } in
     let page_is : c.encode_slot_head-page.result ≡ head_page header.format (draft_head_of d net) =
-    c.encode_slot_head-page.ensures ∙ same_head_page header.format d net _ _ (ap length c.arcs.ensures.value) c.landmarks.ensures.value in
-    let long : length (body c.encode_slot_head-page.result) ≡ 4095 = ap (λ (p : List ℕ). length (body p)) page_is ∙ head_body_length header.format (draft_head_of d net) (omega (arith, ap length c.landmarks.ensures.value, c.landmarks.ensures.network.landmarks_to)) in
+    c.encode_slot_head-page.ensures ∙ same_head_page header.format d net _ _ c.arc_count.ensures c.landmarks.ensures.value in
+    let long : length (body c.encode_slot_head-page.result) ≡ 4095 = ap (λ (p : List ℕ). length (body p)) page_is ∙ head_body_length header.format (draft_head_of d net) (omega (arith, ap length c.landmarks.ensures.value, c.landmarks.ensures.few)) in
     let P : List ℕ → Type 0 = IsDraftShutOrWhole header d net old in
     let opening : WritesDisk g.D.Disk (IsShutOrOpened mid (slot_gate header slot)) c.open_gate.result c.settle.new.disk c.open_gate.new.disk =
     subst (λ (k : ℕ). WritesDisk g.D.Disk (IsShutOrOpened mid k) c.open_gate.result c.settle.new.disk c.open_gate.new.disk) c.gate_at.ensures c.open_gate.ensures.writes in

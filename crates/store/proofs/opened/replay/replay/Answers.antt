@@ -1,6 +1,6 @@
 use Rattle.std.proofs.Common.{◌≡◌, ◌∙◌, ℕ, ◌+◌, ◌<◌, List, ap, sym, subst, arith}
 use Rattle.std.proofs.lemmas.Result.{err_from_is_err_and}
-use Rattle.storefile.specs.StoreFile.{page, journal_page_at, is_standing}
+use Rattle.storefile.specs.StoreFile.{page, journal_page_at}
 use Rattle.storefile.specs.Judging.{journal_from}
 use Rattle.pagereader.proofs.Outcomes.{may_lack_whole}
 use Rattle.pagereader.proofs.Unchanged.{nothing_read, read_more}

@@ -1,10 +1,9 @@
-use Rattle.std.proofs.Common.{◌≤◌, length, ap, subst, arith}
-use Rattle.roadnet.specs.Net.{Net}
-use Rattle.store.specs.Going.{DraftGoesOn}
+use Rattle.std.proofs.Common.{refl, ap}
+use Rattle.store.specs.declared.paged.going.GoingCheckpoint.{GoingCheckpoint}
 use Rattle.storefile.specs.Standing.{Standing}
 use Rattle.checkpoint.specs.Writing.{Draft}
 use Rattle.store.proofs.Checkpointed.{no_call}
-use Rattle.store.proofs.GoingOn.{moments_of_beginning, begun_told, begun_tidily, begins}
+use Rattle.store.proofs.GoingOn.{moments_of_beginning, begun_told, begun_tidily, frozen_begins}
 use Rattle.store.proofs.paged.state.Paged.begin_checkpoint.Goals as goal
 
 pub returns-in_default-clause-any_moment : goal.returns-in_default-clause-any_moment
@@ -44,10 +43,9 @@ pub invariant_of-self-2-clause-goes_on : goal.invariant_of-self-2-clause-goes_on
 invariant_of-self-2-clause-goes_on g c works now =
     let s = c.args.self.now in
     let h = c.begin.ensures.writes.honest.0 now in
-    let from : c.args.self.now.found.header.arcs ≤ length c.in-Ok.frozen.arcs = omega (arith, c.args.self.now.arcs_from, ap (λ (n : Net). length n.arcs) c.in-Ok.ensures.same) in
-    ∣ subst (λ (n : Net). DraftGoesOn (g.D.Disk.content c.begin.new.disk) c.args.self.now.found.header c.in-Ok-new.next c.in-Ok.frozen 0 n c.args.self.now.found.version c.args.self.now.found.next_sequence) c.in-Ok.ensures.same
-    (begins (g.D.Disk.content c.begin.new.disk) s.found.header c.in-Ok-new.next c.in-Ok.frozen s.found.version s.found.next_sequence (ap (λ (d : Draft). d.written) c.in-Ok-new.ensures) (ap (λ (d : Draft). d.version) c.in-Ok-new.ensures)
-    (ap (λ (d : Draft). d.next_sequence) c.in-Ok-new.ensures) c.in-Ok.ensures.network from (c.in-Ok-begin.ensures.shut h).closed) ∣₁
+    let g' : GoingCheckpoint = record { next = c.in-Ok-new.next; frozen = c.in-Ok.frozen; committed = 0 } in
+    ∣ frozen_begins (g.D.Disk.content c.begin.new.disk) s.found.header g' s.found.network s.found.version s.found.next_sequence (ap (λ (d : Draft). d.written) c.in-Ok-new.ensures) (ap (λ (d : Draft). d.version) c.in-Ok-new.ensures)
+    (ap (λ (d : Draft). d.next_sequence) c.in-Ok-new.ensures) refl c.in-Ok.ensures.same c.in-Ok.ensures.whole c.of.ensures.network s.arcs_from (c.in-Ok-begin.ensures.shut h).closed ∣₁
 
 pub returns-clause-as_told : goal.returns-clause-as_told
 returns-clause-as_told g c h told =

@@ -1,6 +1,6 @@
 -- The failures of a disk that a run's replies tell, counted.
 use Rattle.std.proofs.Common.{◌≡◌, ◌⊎◌, ⊎_elim, ℕ, true, false, List, [], ◌∷◌, ◌++◌, Option, None, Some, Result, Ok, Err, refl, sym, ◌∙◌, ap, subst, append_assoc}
-use Rattle.std.specs.Prelude.{MatchResult, IfOk, IfErr}
+use Rattle.std.specs.Prelude.{MatchResult}
 use Rattle.std.specs.List.{AllByRecursion}
 use Rattle.pagereader.specs.Outcomes.{failures_told}
 use Rattle.roadnet.specs.declared.refusals.Refusal.{Refusal}

@@ -1,13 +1,12 @@
 -- What each call does to a life of a rehearsal.
-use Rattle.std.proofs.Common.{◌≡◌, ⊎_elim, ℕ, ◌-◌, ◌≤◌, Bool, true, false, cond, eqb, take, List, Option, Some, None, Result, Ok, Err, refl, sym, ◌∙◌, ap, subst, arith, eq-eqb}
+use Rattle.std.proofs.Common.{◌≡◌, ⊎_elim, ℕ, ◌-◌, ◌≤◌, Bool, true, false, cond, eqb, List, Option, Some, None, Result, Ok, Err, refl, sym, ◌∙◌, ap, subst, eq-eqb}
 use Rattle.std.specs.Prelude.{IfSome, OnOk, OnErr, is_some, ◌||◌, ◌==◌, nat_lt}
 use Rattle.disk.specs.Moments.{LeavesOnly, AddsNothing}
 use Rattle.roadnet.specs.declared.groups.Group.{Group}
 use Rattle.roadnet.specs.declared.refusals.Refusal.{Refusal}
 use Rattle.roadnet.specs.Net.{Net}
-use Rattle.roadnet.specs.Step.{after}
 use Rattle.machine.specs.declared.calls.Ticket.{Ticket}
-use Rattle.machine.specs.Machine.{Machine, IsState, network_at}
+use Rattle.machine.specs.Machine.{Machine, IsState}
 use Rattle.machine.specs.Calls.{Submits, Flushes, StepsCheckpoint, TakesTask, RefusesView, has_nothing_unchecked, checkpoint_of, with_part, with_pages_written, is_out, without_task}
 use Rattle.machine.specs.Lives.{Checkpoints}
 use Rattle.machine.specs.Runs.Happened.{Submitted, Flushed, Checkpointed}

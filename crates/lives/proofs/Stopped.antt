@@ -6,7 +6,6 @@ use Rattle.roadnet.specs.Step.{after}
 use Rattle.roadnet.proofs.Stepped.{after_both}
 use Rattle.pages.specs.declared.header.Header.{Header}
 use Rattle.pages.specs.Layout.{slot_pages}
-use Rattle.storefile.specs.StoreFile.{StandsTidyFor}
 use Rattle.storefile.specs.Standing.{Standing, standing_of}
 use Rattle.storefile.proofs.Rests.{stored_as}
 use Rattle.store.specs.Committing.{HasTidyStanding}

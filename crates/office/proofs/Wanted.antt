@@ -1,5 +1,5 @@
 -- What the front of a history tells of a version and its network.
-use Rattle.std.proofs.Common.{◌≡◌, ℕ, ◌+◌, ◌-◌, ◌<◌, ◌≤◌, Bool, true, false, List, ◌++◌, length, take, Option, Some, refl, sym, ap, ◌∙◌, subst, arith}
+use Rattle.std.proofs.Common.{◌≡◌, ℕ, ◌-◌, ◌<◌, ◌≤◌, Bool, true, false, List, length, take, Option, Some, sym, ap, ◌∙◌, subst, arith}
 use Rattle.std.specs.Prelude.{IfSome, MatchBool}
 use Rattle.std.proofs.lemmas.List.{length-take-le, take_all, take_at}
 use mathlib.Core.List.{IsPrefix}
@@ -7,7 +7,7 @@ use Rattle.roadnet.specs.declared.groups.Group.{Group}
 use Rattle.roadnet.specs.Net.{Net}
 use Rattle.roadnet.specs.Step.{after}
 use Rattle.history.specs.Origins.{Origin, Beginning}
-use Rattle.machine.specs.Machine.{Machine, IsState, groups_to, latest, network_at}
+use Rattle.machine.specs.Machine.{Machine, IsState, groups_to, network_at}
 use Rattle.machine.specs.Calls.{IsTask}
 use Rattle.published.specs.Showing.{Showing}
 use Rattle.office.specs.Offices.{IsOffice}

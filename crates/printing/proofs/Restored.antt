@@ -1,12 +1,11 @@
 -- A network whose arcs are opened, and whose closed arcs are closed again, is as it was.
-use Rattle.std.proofs.Common.{◌≡◌, ◌∙◌, ℕ, ◌+◌, ◌<◌, suc, zero, Bool, true, false, not, cond, List, [], ◌∷◌, ◌++◌, length, map, Some, None, refl, sym, ap, subst, arith, append_assoc, append-nil}
+use Rattle.std.proofs.Common.{◌≡◌, ◌∙◌, ℕ, ◌+◌, suc, Bool, true, false, not, cond, List, [], ◌∷◌, ◌++◌, length, map, Some, refl, sym, ap, arith, append_assoc}
 use Rattle.std.specs.Prelude.{slice_get, filter}
 use Rattle.std.specs.List.{enumerate_from}
 use Rattle.std.proofs.lemmas.List.{length-append}
 use Rattle.roadnet.specs.declared.arcs.RoadArc.{RoadArc}
-use Rattle.roadnet.specs.declared.commands.Command.{Command}
 use Rattle.roadnet.specs.declared.commands.Command.TheVariants.{Close}
-use Rattle.roadnet.specs.Net.{Net, nth, update_nth}
+use Rattle.roadnet.specs.Net.{Net, update_nth}
 use Rattle.roadnet.specs.Step.{after, step}
 use Rattle.printing.specs.Exports.{opened_arc, closings, ClosingRestores}
 

@@ -3,14 +3,11 @@ use Rattle.std.proofs.Common.{◌≡◌, ◌∙◌, ℕ, ◌+◌, ◌<◌, List,
 use Rattle.std.specs.Io.KnownBytes.{Appends}
 use Rattle.std.proofs.KnownBytes.{Appends-trans}
 use Rattle.std.proofs.lemmas.List.{take_more, length-take-le}
-use Rattle.std.proofs.lemmas.Slice.Zip.{all_zipped_more}
-use Rattle.roadnet.specs.Net.{Net}
 use Rattle.dimacs.specs.declared.lists.pairs.Pair.{Pair}
 use Rattle.rows.specs.declared.queries.Query.{Query}
 use Rattle.rows.specs.declared.queries.Reply.{Reply}
-use Rattle.rows.specs.Replies.{IsRight}
 use Rattle.printing.specs.Printed.{answer_line}
-use Rattle.querytexts.specs.Batch.{pair_query_of, ArePairsRight, answer_lines}
+use Rattle.querytexts.specs.Batch.{pair_query_of, answer_lines}
 
 push_line : (pairs : List Pair) (replies : List Reply) (pair : Pair) (reply : Reply) → length replies ≡ length pairs
     → answer_lines (pairs ++ pair ∷ []) (replies ++ reply ∷ []) ≡ answer_lines pairs replies ++ answer_line (pair_query_of pair) reply

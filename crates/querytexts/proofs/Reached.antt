@@ -1,12 +1,12 @@
 -- The nodes that a search tells, and the lines of them.
-use Rattle.std.proofs.Common.{◌≡◌, ◌∙◌, ℕ, ◌+◌, ◌-◌, ◌*◌, ◌^◌, ◌<◌, ◌≤◌, Bool, true, false, List, [], ◌∷◌, ◌++◌, Option, None, Some, length, get_or, take, ap, refl, sym, subst, append-nil, arith}
+use Rattle.std.proofs.Common.{◌≡◌, ◌∙◌, ℕ, ◌+◌, ◌-◌, ◌*◌, ◌<◌, ◌≤◌, Bool, true, false, List, [], ◌∷◌, ◌++◌, Option, None, Some, length, get_or, take, ap, refl, sym, subst, append-nil, arith}
 use Rattle.std.proofs.KnownBytes.{Appends-trans}
 use Rattle.std.proofs.lemmas.Bool.{true≢false}
 use Rattle.std.proofs.lemmas.Grind.{flat_map-append}
 use Rattle.std.proofs.lemmas.List.{take_more}
 use Rattle.std.specs.Io.KnownBytes.{Appends}
-use Rattle.std.specs.Prelude.{Contains, unwrap_or, if◌then◌else◌}
-use Rattle.roadnet.specs.Net.{Net, IsNetwork, IsNode}
+use Rattle.std.specs.Prelude.{unwrap_or, if◌then◌else◌}
+use Rattle.roadnet.specs.Net.{Net, IsNetwork}
 use Rattle.roadnet.specs.Numbers.{number_of}
 use Rattle.roadnet.specs.declared.refusals.Refusal.TheVariants.{NoSuchNode}
 use Rattle.roadnet.specs.Step.{is_node}
@@ -15,7 +15,7 @@ use Rattle.roadnet.specs.Reversal.{reversed}
 use Rattle.roadnet.proofs.Apart.{least_is_bounded}
 use Rattle.snapshot.specs.Groups.{Groups, IsSnapshotOf}
 use Rattle.deltastep.specs.declared.rows.known.NodeDistance.{NodeDistance}
-use Rattle.deltastep.specs.Reach.{AreNodesWithin, IsReach as IsReachOf, IsReachTo, told_node}
+use Rattle.deltastep.specs.Reach.{AreNodesWithin, IsReach as IsReachOf, IsReachTo}
 use Rattle.querytexts.specs.declared.reaches.Reach.{Reach}
 use Rattle.querytexts.specs.declared.reaches.Reach.TheVariants.{From, To}
 use Rattle.querytexts.specs.Reach.{AreGroupsFor, AnswersReach, IsLength, IsReachOfText, IsWithinLimit, center_of, reach_line, lines_of_reach}

@@ -1,11 +1,10 @@
 -- Why a table is refused: what the reads of its three texts gave, put together.
-use Rattle.std.proofs.Common.{◌≡◌, ℕ, List, Option, None, Some, Result, Ok, Err, ap, sym, subst, refl}
+use Rattle.std.proofs.Common.{◌≡◌, ℕ, List, Option, None, Some, Result, Ok, Err, sym, subst, refl}
 use Rattle.std.specs.Prelude.{IfErr, IfSome, ⊤}
 use Rattle.roadnet.specs.Net.{Net}
 use Rattle.roadnet.specs.declared.refusals.Refusal.{Refusal}
 use Rattle.roadnet.specs.declared.refusals.Refusal.TheVariants.{Write, OutOfMemory}
 use Rattle.dimacs.specs.declared.fault.Fault.{Fault}
-use Rattle.dimacs.specs.Lines.{rows}
 use Rattle.dimacs.specs.Content.{gr_text, content}
 use Rattle.dimacs.specs.Landmarks.{nodes_text}
 use Rattle.dimacs.specs.Texts.{Source, FaultOf, ReadsText, map_ok}

@@ -5,8 +5,8 @@ use Rattle.roadnet.specs.declared.arcs.RoadArc.{RoadArc}
 use Rattle.roadnet.specs.declared.commands.Command.{Command}
 use Rattle.roadnet.specs.declared.commands.Command.TheVariants.{Set, Close, Reopen, Mark, Unmark, Lay}
 use Rattle.roadnet.specs.declared.refusals.Refusal.{Refusal}
-use Rattle.roadnet.specs.Net.{Net, arc_at, nth, update_nth}
-use Rattle.roadnet.specs.Step.{new_arc, refusal_of, step, step_group, changed, after}
+use Rattle.roadnet.specs.Net.{Net, nth, update_nth}
+use Rattle.roadnet.specs.Step.{new_arc, refusal_of, step_group, changed, after}
 use Rattle.roadnet.specs.Ends.{KeepsEnds, EndsStay, EndsWereTheSame}
 
 -- an arc with these ends

@@ -1,7 +1,7 @@
 -- Batches of commands: what each command leaves of an arc and of a landmark, how many landmarks there are after it, and what all give.
 use Rattle.std.proofs.Common.{not, ◌&&◌, ◌||◌, ◌≡◌, ◌∙◌, ℕ, zero, suc, ◌+◌, ◌-◌, ◌<◌, ◌≤◌, Bool, true, false, true≢false, cond, List, [], ◌∷◌, ◌++◌, Option, Some, None, length, get_or, set, take, drop, refl, ap, sym, subst, arith, eqb, ltb, length-append, ⊎_elim}
 use Rattle.std.specs.Prelude.{◌^◌, option_map, option_and_then, is_none, nat_le}
-use Rattle.std.specs.List.{All, filter, fold}
+use Rattle.std.specs.List.{filter, fold}
 use Rattle.std.specs.List.Sorted.{IsStrictlyIncreasing}
 use Rattle.std.proofs.lemmas.Bool.{cases_eq, cases_lt}
 use Rattle.std.proofs.lemmas.Bool.Decides.{nat_tests}
@@ -19,12 +19,12 @@ use Rattle.roadnet.specs.declared.commands.Command.TheVariants.{Set, Close, Reop
 use Rattle.roadnet.specs.declared.refusals.Refusal.{Refusal}
 use Rattle.roadnet.specs.Members.{is_member, with_member, without_member}
 use Rattle.roadnet.specs.Net.{Net, IsNode, IsNetwork, arc_at, nth, update_nth}
-use Rattle.roadnet.specs.Step.{is_node, is_landmark, new_arc, refusal_of, step, step_group, after, changed, first_refusal}
-use Rattle.roadnet.specs.Batches.{changed_by, changed_by_all, opened_at, changed_arcs, changed_landmarks, HasFitNumbers, first_refusal_of_all, RefusesOneOf, FirstRefusalIsOfTheFirst, AfterIsChanged, AfterAllIsChanged, GroupsAreTheirCommands, RefusedAsTheirCommands, AdmittedFits, AllAdmittedFit}
+use Rattle.roadnet.specs.Step.{is_node, is_landmark, new_arc, refusal_of, step_group, after, changed, first_refusal}
+use Rattle.roadnet.specs.Batches.{changed_by, changed_by_all, opened_at, changed_arcs, changed_landmarks, HasFitNumbers, RefusesOneOf, FirstRefusalIsOfTheFirst, AfterIsChanged, AfterAllIsChanged, GroupsAreTheirCommands, RefusedAsTheirCommands, AdmittedFits, AllAdmittedFit}
 use Rattle.roadnet.specs.Groups.{commands_of}
 use Rattle.roadnet.proofs.Kept.{update_nth_suc, nth_within, past_first, three_failed, admitted_mark, admitted_lay, within_length, IsNetwork-changed}
 use Rattle.roadnet.proofs.Members.{IsStrictlyIncreasing-with_member, IsStrictlyIncreasing-without_member}
-use Rattle.roadnet.proofs.Stepped.{group_admitted, groups_join, nth-update_nth, nth-update_nth_other, nth-added, nth-beside, is_member-with_member, is_member-with_member_other, is_member-without_member, is_member-without_member_other}
+use Rattle.roadnet.proofs.Stepped.{groups_join, nth-update_nth, nth-update_nth_other, nth-added, nth-beside, is_member-with_member, is_member-with_member_other, is_member-without_member, is_member-without_member_other}
 
 -- ---- one arc after one command
 

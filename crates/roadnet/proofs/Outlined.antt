@@ -1,5 +1,5 @@
 -- What of a network its outline has, and what a command does to it.
-use Rattle.std.proofs.Common.{not, ◌&&◌, ◌≡◌, ◌∙◌, ℕ, zero, suc, ◌-◌, ◌<◌, ◌≤◌, Bool, true, false, true≢false, cond, List, [], ◌∷◌, ◌++◌, Option, Some, None, length, set, map, refl, ap, sym, subst, arith, ltb}
+use Rattle.std.proofs.Common.{not, ◌&&◌, ◌≡◌, ◌∙◌, ℕ, zero, suc, ◌-◌, ◌≤◌, Bool, true, false, true≢false, cond, List, [], ◌∷◌, ◌++◌, Option, Some, None, length, map, refl, ap, sym, subst, ltb}
 use Rattle.std.specs.Prelude.{option_map, is_none, nat_le}
 use Rattle.std.specs.Option.{option_map_or}
 use Rattle.std.specs.List.{All}
@@ -16,8 +16,7 @@ use Rattle.roadnet.specs.Members.{is_member, with_member, without_member}
 use Rattle.roadnet.specs.Net.{Net, nth, update_nth}
 use Rattle.roadnet.specs.Outlines.{Outlined, outline_of, IsOutline}
 use Rattle.roadnet.specs.Step.{is_node, new_arc, refusal_of, changed, first_refusal}
-use Rattle.roadnet.proofs.InTurn.{node_passes, update_at}
-use Rattle.roadnet.proofs.Kept.{nth_within}
+use Rattle.roadnet.proofs.InTurn.{node_passes}
 use Rattle.roadnet.proofs.Members.{is_member-beyond}
 
 abbrev pub flag : RoadArc → Bool

@@ -1,8 +1,7 @@
 -- What is seen of a network at one arc and one node after a command, and after several.
-use Rattle.std.proofs.Common.{not, ◌≡◌, ◌∙◌, ℕ, ◌+◌, ◌-◌, ◌<◌, ◌≤◌, Bool, true, false, true≢false, List, [], ◌∷◌, Option, Some, None, length, refl, ap, sym, subst, arith, length-append}
+use Rattle.std.proofs.Common.{◌≡◌, ◌∙◌, ℕ, ◌+◌, ◌-◌, ◌<◌, Bool, true, false, true≢false, [], ◌∷◌, Option, Some, None, length, refl, sym, subst, arith, length-append}
 use Rattle.std.specs.Prelude.{is_none}
 use Rattle.roadnet.specs.declared.arcs.RoadArc.{RoadArc}
-use Rattle.roadnet.specs.declared.commands.Command.{Command}
 use Rattle.roadnet.specs.declared.commands.Command.TheVariants.{Set, Close, Reopen, Mark, Unmark, Lay}
 use Rattle.roadnet.specs.declared.probes.ProbedPlace.{ProbedPlace}
 use Rattle.roadnet.specs.Net.{Net, IsNetwork, arc_at}

@@ -1,5 +1,4 @@
 use Rattle.std.proofs.Common.{rules}
-use Rattle.querytexts.specs.Once.{AnswersOne}
 use Rattle.querytexts.proofs.once.answer_one.Goals as goal
 
 pub returns-clause-answered : goal.returns-clause-answered

@@ -1,6 +1,5 @@
 use Rattle.std.proofs.Common.{◌≡◌, ◌∙◌, ◌<◌, length, get_or, arith}
 use Rattle.std.proofs.lemmas.List.{get_or_read}
-use Rattle.routes.specs.declared.replies.RouteReply.{RouteReply}
 use Rattle.routes.specs.declared.replies.RouteReply.TheVariants.{NoWalk}
 use Rattle.querytexts.proofs.Routed.{routed_more}
 use Rattle.querytexts.proofs.walks.put_routes.Goals as goal

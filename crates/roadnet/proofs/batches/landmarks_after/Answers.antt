@@ -1,4 +1,4 @@
-use Rattle.std.proofs.Common.{[], ◌∙◌, sym, subst}
+use Rattle.std.proofs.Common.{◌∙◌, sym, subst}
 use Rattle.std.specs.List.{All}
 use Rattle.roadnet.specs.Batches.{HasFitNumbers}
 use Rattle.roadnet.proofs.TakenBack.{group_all}

@@ -1,4 +1,4 @@
-use Rattle.std.proofs.Common.{◌≡◌, ◌∙◌, ◌+◌, ◌-◌, ◌<◌, ℕ, Bool, List, length, take, ap, arith}
+use Rattle.std.proofs.Common.{◌≡◌, ◌∙◌, ◌+◌, ◌-◌, ◌<◌, ℕ, Bool, List, take, ap, arith}
 use Rattle.roadnet.specs.declared.commands.Command.TheVariants.{Set}
 use Rattle.roadnet.specs.Flags.{flags_before}
 use Rattle.roadnet.proofs.Flagged.{one_back}

@@ -1,4 +1,4 @@
-use Rattle.std.proofs.Common.{◌∙◌, ◌&&◌, ap}
+use Rattle.std.proofs.Common.{◌∙◌}
 use Rattle.roadnet.specs.Batches.{changed_by, changed_by_all}
 use Rattle.roadnet.proofs.GroupsInTurn.{node_same, nodes_same_both, room_same_both}
 use Rattle.roadnet.proofs.probes.admit_after.Goals as goal

@@ -1,4 +1,4 @@
-use Rattle.std.proofs.Common.{sym, subst, take, ap, List}
+use Rattle.std.proofs.Common.{sym, subst, take, List}
 use Rattle.std.proofs.lemmas.List.{take_all}
 use Rattle.roadnet.specs.declared.commands.Command.{Command}
 use Rattle.roadnet.specs.declared.commands.Command.TheVariants.{Set}

@@ -1,4 +1,4 @@
-use Rattle.std.proofs.Common.{◌≡◌, ◌∙◌, length, ap, sym, arith, set}
+use Rattle.std.proofs.Common.{◌≡◌, ◌∙◌, length, ap, sym, arith}
 use Rattle.std.specs.Vec.{vec_len}
 use Rattle.roadnet.specs.Undoing.{restored}
 use Rattle.roadnet.proofs.TakenBack.{added_taken, set_beyond, was_taken}

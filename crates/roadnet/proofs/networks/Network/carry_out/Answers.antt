@@ -1,10 +1,7 @@
-use Rattle.std.proofs.Common.{◌≡◌, ◌∙◌, ℕ, List, Some, None, ap, sym, subst, fold}
-use Rattle.std.specs.List.{All}
-use Rattle.roadnet.specs.declared.arcs.RoadArc.{RoadArc}
+use Rattle.std.proofs.Common.{◌≡◌, ◌∙◌, ℕ, List, Some, ap, sym, subst, fold}
 use Rattle.roadnet.specs.Net.{Net, IsNetwork}
-use Rattle.roadnet.specs.Batches.{HasFitNumbers, changed_arcs, changed_by_all, changed_landmarks}
+use Rattle.roadnet.specs.Batches.{changed_arcs, changed_landmarks}
 use Rattle.roadnet.specs.Groups.{commands_of}
-use Rattle.roadnet.specs.Step.{first_refusal}
 use Rattle.roadnet.proofs.InTurn.{after_all_is_changed, all_admitted_fit, carried_all, refused_as_their_commands}
 use Rattle.roadnet.proofs.GroupsInTurn.{IsNetwork-changed_by_all}
 use Rattle.roadnet.proofs.networks.Network.carry_out.Goals as goal

@@ -1,4 +1,4 @@
-use Rattle.std.proofs.Common.{ap, rules}
+use Rattle.std.proofs.Common.{ap}
 use Rattle.sessions.specs.declared.queries.finding.Heading.TheVariants.{Shown}
 use Rattle.sessions.proofs.Routed.{route_found}
 use Rattle.sessions.proofs.Said.{puts_so}

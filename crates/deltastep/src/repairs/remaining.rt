@@ -279,7 +279,7 @@ pub(crate) fn remaining(
         lost: Vec::new(alloc),
     };
     remains.lose_changed(before, after, source, row, changed)?;
-    if !remains.spread(after, source, row, before.nodes() / 8)? {
+    if !remains.spread(after, source, row, before.nodes() / 4)? {
         return Ok(None);
     }
     Ok(Some(remains))

@@ -240,7 +240,7 @@ fn repaired<T: Team>(
 /// both, as `changed_nodes` gives them. For each leg of the new snapshot, `back` has one from its head to its tail. Nodes whose shortest walks may use a leg
 /// that is gone lose their distance, and so do the nodes that depend on these. Then the search continues from the nodes with a leg that leads to less than
 /// is known. It takes time only for what was lost and changed, with the legs around it, and a counter for each chunk of the row; and memory for the chunks in
-/// which a word is written: the others are those of the row before. If an eighth of the nodes or more lose their distance, or a length does not fit into 4
+/// which a word is written: the others are those of the row before. If a quarter of the nodes or more lose their distance, or a length does not fit into 4
 /// bytes, or the row before was not kept in words of 4 bytes, the row is made anew. Its only error is lack of memory.
 pub fn row_after<T: Team>(
     alloc: Global,

@@ -5,7 +5,8 @@
     tools/measure_gate.py --watch PID            watches a gate that runs already, until the process PID ends
 
 Looks twice a second at each prover below the gate's process. A crate's proof, its tests and its edits (with the proofs that they begin with) are told in
-processor seconds, with the most memory that one of its provers took. `minute` is when its proof ended by the clock. Crates that an earlier run kept are missing."""
+processor seconds, with the most memory that one of its provers took. `minute` is when its proof ended by the clock. Crates that an earlier run kept are missing.
+A prover that does not run in a crate's folder tries an edit."""
 import collections
 import os
 import pathlib
@@ -17,17 +18,18 @@ TOP = pathlib.Path(__file__).resolve().parent.parent
 TICK, PAGE = os.sysconf("SC_CLK_TCK"), os.sysconf("SC_PAGE_SIZE")
 
 def look(pid):
-    """The words, the parent, the processor seconds and the bytes of a process, if it is there."""
+    """The words, the parent, the processor seconds, the bytes and the folder of a process, if it is there."""
     try:
+        folder = os.readlink(f"/proc/{pid}/cwd")
         words = pathlib.Path(f"/proc/{pid}/cmdline").read_bytes().decode(errors="replace").split("\0")
         fields = pathlib.Path(f"/proc/{pid}/stat").read_text().rsplit(")", 1)[1].split()
         held = int(pathlib.Path(f"/proc/{pid}/statm").read_text().split()[1]) * PAGE
     except (OSError, IndexError, ValueError):
         return None
-    return words, int(fields[1]), (int(fields[11]) + int(fields[12])) / TICK, held
+    return words, int(fields[1]), (int(fields[11]) + int(fields[12])) / TICK, held, folder
 
-def kind_of(words):
-    if "--incremental" in words:
+def kind_of(words, folder):
+    if "--incremental" in words or "/crates/" not in folder:
         return "edits"
     return "tests" if "--test" in words else "proof"
 
@@ -43,9 +45,9 @@ def watch(gate, is_running):
             while above != gate and seen.get(above):
                 above = seen[above][1]
             if above == gate:
-                words, _, seconds, held = found
+                words, _, seconds, held, folder = found
                 most = max(held, provers[pid][3] if pid in provers else 0)
-                provers[pid] = words[words.index("--crate-name") + 1], kind_of(words), seconds, most, time.monotonic() - begun
+                provers[pid] = words[words.index("--crate-name") + 1], kind_of(words, folder), seconds, most, time.monotonic() - begun
         time.sleep(0.5)
     return provers.values()
 

@@ -10,6 +10,7 @@ pub mod Lowering
 pub mod Looking
 pub mod Narrowing
 pub mod NoShorter
+pub mod Owing
 pub mod Phases
 pub mod Queues
 pub mod Reached

@@ -19,28 +19,28 @@ use Rattle.deltastep.proofs.Remaining.{IsRowIn, All-member}
 pub AreQueued-empty : (t : List (Option ℕ)) (q : Entries) → q ≡ empty → AreQueued t q
 AreQueued-empty t q is u x has = absurd (let no : None ≡ Some x = sym (ap (λ (m : Entries). get m u) is ∙ get-empty nat_cmp u) ∙ has in let absurdity : ⊥ = cc in absurdity)
 
-pub IsLooked-on : (groups : Groups) (t : List (Option ℕ)) (q q' : Entries) → ((u : ℕ) → IsSome (get q u) → IsSome (get q' u)) → (u : ℕ) → IsNodeLooked groups t q u → IsNodeLooked groups t q' u
-IsLooked-on groups t q q' keeps u (inl some) = inl (keeps u some)
-IsLooked-on groups t q q' keeps u (inr relaxed) = inr relaxed
+pub IsLooked-on : (groups : Groups) (t : List (Option ℕ)) (P Q : ℕ → Type 0) → ((u : ℕ) → P u → Q u) → (u : ℕ) → IsNodeLooked groups t P u → IsNodeLooked groups t Q u
+IsLooked-on groups t P Q keeps u (inl some) = inl (keeps u some)
+IsLooked-on groups t P Q keeps u (inr relaxed) = inr relaxed
 
-pub All-looked_on : (groups : Groups) (t : List (Option ℕ)) (q q' : Entries) (legs : List Leg) → ((u : ℕ) → IsSome (get q u) → IsSome (get q' u)) → All (λ (leg : Leg). IsNodeLooked groups t q leg.head) legs → All (λ (leg : Leg). IsNodeLooked groups t q' leg.head) legs
-All-looked_on groups t q q' legs keeps all k d lt = IsLooked-on groups t q q' keeps (get_or legs k d).head (all k d lt)
+pub All-looked_on : (groups : Groups) (t : List (Option ℕ)) (P Q : ℕ → Type 0) (legs : List Leg) → ((u : ℕ) → P u → Q u) → All (λ (leg : Leg). IsNodeLooked groups t P leg.head) legs → All (λ (leg : Leg). IsNodeLooked groups t Q leg.head) legs
+All-looked_on groups t P Q legs keeps all k d lt = IsLooked-on groups t P Q keeps (get_or legs k d).head (all k d lt)
 
-pub All-changed_on : (groups : Groups) (t : List (Option ℕ)) (q q' : Entries) (nodes : List ℕ) → ((u : ℕ) → IsSome (get q u) → IsSome (get q' u)) → All (λ u. 1 ≤ u → u ≤ groups.nodes → IsNodeLooked groups t q u) nodes → All (λ u. 1 ≤ u → u ≤ groups.nodes → IsNodeLooked groups t q' u) nodes
-All-changed_on groups t q q' nodes keeps all k d lt low high = IsLooked-on groups t q q' keeps (get_or nodes k d) (all k d lt low high)
+pub All-changed_on : (groups : Groups) (t : List (Option ℕ)) (P Q : ℕ → Type 0) (nodes : List ℕ) → ((u : ℕ) → P u → Q u) → All (λ u. 1 ≤ u → u ≤ groups.nodes → IsNodeLooked groups t P u) nodes → All (λ u. 1 ≤ u → u ≤ groups.nodes → IsNodeLooked groups t Q u) nodes
+All-changed_on groups t P Q nodes keeps all k d lt low high = IsLooked-on groups t P Q keeps (get_or nodes k d) (all k d lt low high)
 
-pub AreTailsLooked-on : (groups back : Groups) (t : List (Option ℕ)) (q q' : Entries) (w : ℕ) → ((u : ℕ) → IsSome (get q u) → IsSome (get q' u)) → AreTailsLooked groups back t q w → AreTailsLooked groups back t q' w
-AreTailsLooked-on groups back t q q' w keeps looked part = All-looked_on groups t q q' (legs_of back part w) keeps (looked part)
+pub AreTailsLooked-on : (groups back : Groups) (t : List (Option ℕ)) (P Q : ℕ → Type 0) (w : ℕ) → ((u : ℕ) → P u → Q u) → AreTailsLooked groups back t P w → AreTailsLooked groups back t Q w
+AreTailsLooked-on groups back t P Q w keeps looked part = All-looked_on groups t P Q (legs_of back part w) keeps (looked part)
 
-pub AreTailsLooked-parts : (groups back : Groups) (t : List (Option ℕ)) (q : Entries) (w : ℕ) → All (λ (leg : Leg). IsNodeLooked groups t q leg.head) (legs_of back Light w) → All (λ (leg : Leg). IsNodeLooked groups t q leg.head) (legs_of back Heavy w) → AreTailsLooked groups back t q w
-AreTailsLooked-parts groups back t q w light heavy part = elim part as (λ p. All (λ (leg : Leg). IsNodeLooked groups t q leg.head) (legs_of back p w)) [ Light ↦ light | Heavy ↦ heavy ]
+pub AreTailsLooked-parts : (groups back : Groups) (t : List (Option ℕ)) (P : ℕ → Type 0) (w : ℕ) → All (λ (leg : Leg). IsNodeLooked groups t P leg.head) (legs_of back Light w) → All (λ (leg : Leg). IsNodeLooked groups t P leg.head) (legs_of back Heavy w) → AreTailsLooked groups back t P w
+AreTailsLooked-parts groups back t P w light heavy part = elim part as (λ p. All (λ (leg : Leg). IsNodeLooked groups t P leg.head) (legs_of back p w)) [ Light ↦ light | Heavy ↦ heavy ]
 
 pub heads_to : (groups : Groups) (n : ℕ) (part : Part) (u : ℕ) (legs : List Leg) → IsGrouped groups → groups.nodes ≡ n → legs ≡ legs_of groups part u → All (λ (leg : Leg). (1 ≤ leg.head) × (leg.head ≤ n)) legs
 heads_to groups n part u legs grouped nodes is k d lt =
     let c : Contains (legs_of groups part u) (get_or legs k d) = subst (λ (l : List Leg). Contains l (get_or legs k d)) is (Contains-get_or legs k d lt) in
     (grouped.low part u (get_or legs k d) c, omega (arith, grouped.high part u (get_or legs k d) c))
 
-module _ (before after back : Groups) (source : ℕ) (row t : List (Option ℕ)) (q : Entries) (changed lost : List ℕ) (grouped : IsGrouped after) (of_row : IsRowIn before source row) (kept : IsKeptOf source row t) (search : IsSearch after t empty 0) (are : AreChanged before after changed) (tails : AreTails back after) (looked : All (λ u. 1 ≤ u → u ≤ after.nodes → IsNodeLooked after t q u) changed) (listed : AreListed row t lost) (tails_looked : All (AreTailsLooked after back t q) lost) where
+module _ (before after back : Groups) (source : ℕ) (row t : List (Option ℕ)) (q : Entries) (changed lost : List ℕ) (grouped : IsGrouped after) (of_row : IsRowIn before source row) (kept : IsKeptOf source row t) (search : IsSearch after t empty 0) (are : AreChanged before after changed) (tails : AreTails back after) (looked : All (λ u. 1 ≤ u → u ≤ after.nodes → IsNodeLooked after t (λ v. IsSome (get q v)) u) changed) (listed : AreListed row t lost) (tails_looked : All (AreTailsLooked after back t (λ v. IsSome (get q v))) lost) where
   has_kept : (u x : ℕ) → value_at t u ≡ Some x → distance_at row u ≡ Some x
   has_kept u x has = elim (kept.kept u) as (λ _. distance_at row u ≡ Some x) [
     | inl none ↦ absurd (let no : None ≡ Some x = sym none ∙ has in let absurdity : ⊥ = cc in absurdity)
@@ -57,7 +57,7 @@ module _ (before after back : Groups) (source : ℕ) (row t : List (Option ℕ))
       ] refl in
       omega (arith, top, at_most)
 
-  of_looked : (u : ℕ) → get q u ≡ None → IsNodeLooked after t q u → (part : Part) → IsRelaxed after part t u
+  of_looked : (u : ℕ) → get q u ≡ None → IsNodeLooked after t (λ w. IsSome (get q w)) u → (part : Part) → IsRelaxed after part t u
   of_looked u none (inl some) part = absurd (let no : is_some {T = ℕ} None ≡ true = ap is_some (sym none) ∙ some in let absurdity : ⊥ = cc in absurdity)
   of_looked u none (inr relaxed) part = relaxed part
 
@@ -65,7 +65,7 @@ module _ (before after back : Groups) (source : ℕ) (row t : List (Option ℕ))
   at_leg u x low high has none part leg c =
       let Goal = value_or (top_of after) t leg.head ≤ value_or (top_of after) t u + leg.length in
       elim (are u) as (λ _. Goal) [
-        | inl c' ↦ of_looked u none (All-member (λ v. 1 ≤ v → v ≤ after.nodes → IsNodeLooked after t q v) changed u looked c' low high) part leg c
+        | inl c' ↦ of_looked u none (All-member (λ v. 1 ≤ v → v ≤ after.nodes → IsNodeLooked after t (λ w. IsSome (get q w)) v) changed u looked c' low high) part leg c
         | inr same ↦
             let step = of_row.onward u x part leg (subst (λ (l : List Leg). Contains l leg) (sym (same part)) c) (has_kept u x has) in
             let here : value_or (top_of after) t u ≡ x = value_or-some (top_of after) t u x has in
@@ -78,18 +78,18 @@ module _ (before after back : Groups) (source : ℕ) (row t : List (Option ℕ))
                   let way = tails part u leg c in
                   elim (listed leg.head e) as (λ _. Goal) [
                     | inl there ↦
-                        let all = All-member (AreTailsLooked after back t q) lost leg.head tails_looked there way.0 in
-                        let at : IsNodeLooked after t q way.1.head = All-member (λ (l : Leg). IsNodeLooked after t q l.head) (legs_of back way.0 leg.head) way.1 all way.2 in
-                        of_looked u none (subst (λ v. IsNodeLooked after t q v) way.3 at) part leg c
+                        let all = All-member (AreTailsLooked after back t (λ w. IsSome (get q w))) lost leg.head tails_looked there way.0 in
+                        let at : IsNodeLooked after t (λ w. IsSome (get q w)) way.1.head = All-member (λ (l : Leg). IsNodeLooked after t (λ w. IsSome (get q w)) l.head) (legs_of back way.0 leg.head) way.1 all way.2 in
+                        of_looked u none (subst (λ v. IsNodeLooked after t (λ w. IsSome (get q w)) v) way.3 at) part leg c
                     | inr gone ↦ absurd (let no : None ≡ Some step.0 = sym gone ∙ step.1 in let absurdity : ⊥ = cc in absurdity)
                   ]
             ] refl
       ]
 
-  pub each_looked : (u : ℕ) → 1 ≤ u → u ≤ after.nodes → IsNodeLooked after t q u
-  each_looked u low high = elim (value_at t u) as (λ o. value_at t u ≡ o → IsNodeLooked after t q u) [
+  pub each_looked : (u : ℕ) → 1 ≤ u → u ≤ after.nodes → IsNodeLooked after t (λ w. IsSome (get q w)) u
+  each_looked u low high = elim (value_at t u) as (λ o. value_at t u ≡ o → IsNodeLooked after t (λ w. IsSome (get q w)) u) [
     | None ↦ λ e. inr (unknown u e)
-    | Some x ↦ λ e. elim (get q u) as (λ o. get q u ≡ o → IsNodeLooked after t q u) [
+    | Some x ↦ λ e. elim (get q u) as (λ o. get q u ≡ o → IsNodeLooked after t (λ w. IsSome (get q w)) u) [
       | Some y ↦ λ e'. inl (ap is_some e')
       | None ↦ λ e'. inr (at_leg u x low high e e')
     ] refl

@@ -1,8 +1,7 @@
 -- What a search knows that goes on from values which are lengths of trips.
-use Rattle.std.proofs.Common.{◌≡◌, ℕ, zero, suc, ◌≤◌, ◌⊎◌, List, [], Contains, IsSome, Option, Some, sym, ap, subst, ◌∙◌, inl, inr, arith, is_some}
-use Rattle.std.proofs.lemmas.Bool.{cases_eq, cases_lt}
-use Rattle.std.specs.FinMap.{get, insert, empty}
-use Rattle.relax.specs.Values.{value_at}
+use Rattle.std.proofs.Common.{◌≡◌, ℕ, zero, suc, ◌≤◌, ◌⊎◌, List, [], Contains, IsSome, Option, sym, subst, ◌∙◌, inl, inr, arith}
+use Rattle.std.proofs.lemmas.Bool.{cases_lt}
+use Rattle.std.specs.FinMap.{get, empty}
 use Rattle.snapshot.specs.Groups.{Groups, legs_of, IsGrouped}
 use Rattle.snapshot.specs.declared.legs.Leg.{Leg}
 use Rattle.snapshot.specs.declared.legs.Part.{Part}
@@ -11,28 +10,10 @@ use Rattle.buckets.specs.Queue.{Entries}
 use Rattle.deltastep.specs.Search.{AreReached, IsSearch, IsRelaxed, IsRelaxedBut, IsBetweenBuckets, top_of}
 use Rattle.deltastep.specs.Repair.{AreChanged, AreQueued}
 use Rattle.frontier.proofs.Members.{Contains-nil}
-use Rattle.deltastep.proofs.Queues.{get-insert_same, get-insert_other}
 
 pub top_small : (groups : Groups) → IsGrouped groups → top_of groups ≤ 72057594037927936
 unfolding top_of
 top_small groups grouped = let few : groups.nodes ≤ 33554432 = grouped.nodes in omega arith
-
-pub AreQueued-put : (t : List (Option ℕ)) (q q' : Entries) (node value : ℕ) → q' ≡ insert q node value → Some value ≡ value_at t node → AreQueued t q → AreQueued t q'
-AreQueued-put t q q' node value is has queued u x in_queue =
-    let now : get (insert q node value) u ≡ Some x = subst (λ (m : Entries). get m u ≡ Some x) is in_queue in
-    elim (cases_eq u node) as (λ _. value_at t u ≡ Some x) [
-      | inl e ↦ subst (λ v. value_at t v ≡ Some x) (sym e) (sym has ∙ (sym (subst (λ v. get (insert q node value) v ≡ Some value) (sym e) (get-insert_same q node value)) ∙ now))
-      | inr ne ↦ queued u x (sym (get-insert_other q node value u ne) ∙ now)
-    ]
-
-pub IsSome-put_here : (q q' : Entries) (node value : ℕ) → q' ≡ insert q node value → IsSome (get q' node)
-IsSome-put_here q q' node value is = ap is_some (ap (λ (m : Entries). get m node) is ∙ get-insert_same q node value)
-
-pub IsSome-put : (q q' : Entries) (node value u : ℕ) → q' ≡ insert q node value → IsSome (get q u) → IsSome (get q' u)
-IsSome-put q q' node value u is some = elim (cases_eq u node) as (λ _. IsSome (get q' u)) [
-  | inl e ↦ subst (λ v. IsSome (get q' v)) (sym e) (IsSome-put_here q q' node value is)
-  | inr ne ↦ ap is_some (ap (λ (m : Entries). get m u) is ∙ get-insert_other q node value u ne) ∙ some
-]
 
 -- what is no node has no legs
 no_legs : (groups : Groups) (part : Part) (t : List (Option ℕ)) (u : ℕ) → legs_of groups part u ≡ [] → IsRelaxed groups part t u

@@ -78,17 +78,21 @@ pub record Thins (source : ℕ) (old : List (Option ℕ)) (lost : List ℕ) (new
   pub grows : (more : List ℕ) × (lost' ≡ lost ++ more)
   pub more : (u : ℕ) → value_at new u ≡ None → Contains lost' u ⊎ (value_at old u ≡ None)
 
--- the node is queued, or no leg of it leads to less than is known
-abbrev pub IsNodeLooked : Groups → List (Option ℕ) → Entries → ℕ → Type 0
-IsNodeLooked groups tentative queue u = IsSome (map.get queue u) ⊎ ((part : Part) → IsRelaxed groups part tentative u)
+-- the node is among those that owe, or no leg of it leads to less than is known
+abbrev pub IsNodeLooked : Groups → List (Option ℕ) → (ℕ → Type 0) → ℕ → Type 0
+IsNodeLooked groups tentative owes u = owes u ⊎ ((part : Part) → IsRelaxed groups part tentative u)
+
+-- each of these nodes has a value
+abbrev pub HaveValues : List (Option ℕ) → List ℕ → Type 0
+HaveValues tentative nodes = (u : ℕ) → Contains nodes u → IsSome (value_at tentative u)
 
 -- for each leg there is one back, from its head to its tail
 abbrev pub AreTails : Groups → Groups → Type 0
 AreTails back groups = (part : Part) (u : ℕ) (leg : Leg) → Contains (legs_of groups part u) leg → (way : Part) × (l : Leg) × Contains (legs_of back way leg.head) l × (l.head ≡ u)
 
 -- each node with a leg to this node was looked at
-abbrev pub AreTailsLooked : Groups → Groups → List (Option ℕ) → Entries → ℕ → Type 0
-AreTailsLooked groups back tentative queue w = (part : Part) → All (λ leg. IsNodeLooked groups tentative queue leg.head) (legs_of back part w)
+abbrev pub AreTailsLooked : Groups → Groups → List (Option ℕ) → (ℕ → Type 0) → ℕ → Type 0
+AreTailsLooked groups back tentative owes w = (part : Part) → All (λ leg. IsNodeLooked groups tentative owes leg.head) (legs_of back part w)
 
 -- each node with a distance in the row and no value is on the list
 abbrev pub AreListed : List (Option ℕ) → List (Option ℕ) → List ℕ → Type 0

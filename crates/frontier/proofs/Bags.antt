@@ -495,7 +495,7 @@ none_long [] e = refl
 none_long (x ∷ xs) e = absurd (let absurdity : ⊥ = omega (arith, e) in absurdity)
 
 -- ---- a bag's entries
-value_within : (t : List (Option ℕ)) (u x : ℕ) → value_at t u ≡ Some x → u < length t
+pub value_within : (t : List (Option ℕ)) (u x : ℕ) → value_at t u ≡ Some x → u < length t
 value_within t u x has = elim (cases_lt u (length t)) as (λ _. u < length t) [
   | inl lt ↦ lt
   | inr past ↦ absurd (let none : None ≡ Some x = sym (get_or_past t u None past) ∙ has in let absurdity : ⊥ = cc in absurdity)

@@ -3,4 +3,5 @@ pub mod EntryLists
 pub mod Flags
 pub mod Live
 pub mod Members
+pub mod Resumed
 pub mod Taking

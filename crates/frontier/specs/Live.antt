@@ -6,11 +6,13 @@
 --     AreEntriesOf tentative lists      no entry is below the tentative value of its node, and no list has an entry twice
 --     all_queued width lists bag tentative      the nodes that have a live entry in these lists or in a bag, each with its value, as a map
 --     AreKept tentative width bound lists bag   entries of buckets below the bound stand in lists, all others in the bag
-use Rattle.std.specs.Prelude.{◌≡◌, ℕ, suc, ◌≤◌, ◌/◌, ◌%◌, ◌==◌, ◌&&◌, ◌||◌, ◌<◌, ◌⊎◌, Bool, true, false, take, not, nat_le, List, [], ◌∷◌, map, length, Contains, Option, MatchOption, None, Some}
+--     standing tentative nodes          an entry for each of these nodes, with its value
+--     AreJustQueued tentative nodes queue       just these nodes are queued, each with its value
+use Rattle.std.specs.Prelude.{◌≡◌, ℕ, suc, ◌≤◌, ◌/◌, ◌%◌, ◌==◌, ◌&&◌, ◌||◌, ◌<◌, ◌⊎◌, ◌↔◌, Bool, true, false, take, not, nat_le, List, [], ◌∷◌, map, length, Contains, Option, MatchOption, None, Some}
 use Rattle.std.specs.Option.{option_map_or}
 use Rattle.std.specs.List.{list_any, filter}
 use Rattle.std.specs.FinMap as finite
-use Rattle.relax.specs.Values.{value_at}
+use Rattle.relax.specs.Values.{value_at, value_or}
 use Rattle.buckets.specs.Queue.{Entries}
 use Rattle.frontier.specs.Entries.{EntryLists, entries_at}
 
@@ -112,3 +114,11 @@ pub record CanStand (tentative : List (Option ℕ)) (lists : EntryLists) (bag : 
   pub node : 1 ≤ e.0
   pub above : is_at_most tentative e ≡ true
   pub nowhere : IsNowhere lists bag e
+
+-- ---- a search that goes on from some nodes
+
+abbrev pub standing : List (Option ℕ) → List ℕ → List (ℕ × ℕ)
+standing tentative nodes = map (λ (u : ℕ). (u, value_or 0 tentative u)) nodes
+
+abbrev pub AreJustQueued : List (Option ℕ) → List ℕ → Entries → Type 0
+AreJustQueued tentative nodes queue = (u x : ℕ) → (finite.get queue u ≡ Some x) ↔ (Contains nodes u × (value_at tentative u ≡ Some x))

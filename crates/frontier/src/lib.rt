@@ -8,6 +8,7 @@ mod lower;
 mod mended;
 mod queued;
 mod remembered;
+mod values;
 
 pub use entries::EntryRing;
 pub use frontier::Frontier;
@@ -15,3 +16,4 @@ pub use lazy::LazyRing;
 pub use mended::Mended;
 pub use queued::Queued;
 pub use remembered::Remembered;
+pub use values::SearchValues;

@@ -1,18 +1,20 @@
-//! Where a repair begins its search, found by way of the legs that lead to nodes that lost their values.
+//! The nodes from which a repair goes on, found by way of the legs that lead to nodes that lost their values.
 
-ghost use Rattle.std.specs.Prelude.{◌≡◌, ℕ, ◌+◌, ◌≤◌, ◌<◌, ◌^◌, ◌⊎◌, None, Some, IsSome, OnOk, IfOk, All, length, unwrap_or};
+ghost use Rattle.std.specs.Prelude.{◌≡◌, ℕ, ◌+◌, ◌≤◌, ◌<◌, ◌^◌, ◌⊎◌, [], Some, OnOk, All, Contains, length, unwrap_or};
 ghost use Rattle.std.specs.FinMap as map;
-ghost use Rattle.std.specs.Bool.{OnTrue, OnFalse};
+ghost use Rattle.std.specs.Bool.{OnFalse};
+ghost use Rattle.buckets.specs.Queue.{Entries};
+ghost use Rattle.frontier.specs.Live.{AreJustQueued};
 ghost use Rattle.roadnet.specs.Net.{Net};
 ghost use Rattle.roadnet.specs.Walks.{RowOf, distance_at};
 ghost use Rattle.snapshot.specs.Groups.{IsSnapshotOf};
 ghost use Rattle.snapshot.specs.declared.legs.Part.{Part};
 ghost use Rattle.relax.specs.Values.{value_at, value_or};
 ghost use Rattle.deltastep.specs.Search.{IsRelaxed, IsSearch, top_of, IsBetweenFromReached};
-ghost use Rattle.deltastep.specs.Repair.{AreChanged, AreListed, AreQueued, AreTails, AreTailsLooked, IsKeptOf, IsNodeLooked};
+ghost use Rattle.deltastep.specs.Repair.{AreChanged, AreListed, AreTails, AreTailsLooked, HaveValues, IsKeptOf, IsNodeLooked};
 
 use crate::rows::distances::{Distances, RowError};
-use buckets::BucketQueue;
+use frontier::Remembered;
 use relax::SharedTentative;
 use snapshot::{Leg, Part, Snapshot};
 
@@ -58,136 +60,124 @@ fn owes(snapshot: &Snapshot, tentative: &SharedTentative, node: u32, value: u64)
     false
 }
 
-/// Queues the node with its value, if some leg of it leads to less than is known. Returns whether the value fits the queue, if it had to.
+/// Remembers the node, if it has a value and some leg of it leads to less than is known.
 #[inline(always)]
-fn queue_owing<Q: BucketQueue>(
+fn remember_owing(
     snapshot: &Snapshot,
     tentative: &SharedTentative,
     node: u32,
-    buckets: &mut Q,
-) -> Result<bool, RowError>
+    owing: &mut Remembered,
+) -> Result<(), RowError>
     requires node { (1 ≤ node) × (node ≤ snapshot.now.nodes) }
     requires search { IsSearch snapshot.now tentative.now map.empty 0 }
     requires small { top_of snapshot.now ≤ 2 ^ 56 }
-    ensures queued { OnOk result (AreQueued tentative.now (Q.entries buckets.old) → AreQueued tentative.now (Q.entries buckets.new)) }
-    ensures keeps { OnOk result ((u : ℕ) → IsSome (map.get (Q.entries buckets.old) u) → IsSome (map.get (Q.entries buckets.new) u)) }
-    ensures owing { IfOk result (λ fits. OnTrue fits (IsSome (map.get (Q.entries buckets.new) node) ⊎ ((part : Part) → IsRelaxed snapshot.now part tentative.now node))) }
-    ensures width { OnOk result (Q.width buckets.new ≡ Q.width buckets.old) }
-    ensures span { OnOk result (Q.span buckets.new ≡ Q.span buckets.old) }
+    requires limit { owing.old.limit ≡ snapshot.now.nodes + 1 }
+    ensures valued { OnOk result (HaveValues tentative.now owing.old.nodes → HaveValues tentative.now owing.new.nodes) }
+    ensures keeps { OnOk result ((u : ℕ) → Contains owing.old.nodes u → Contains owing.new.nodes u) }
+    ensures looked { OnOk result (IsNodeLooked snapshot.now tentative.now (Contains owing.new.nodes) node) }
+    ensures limit { owing.new.limit ≡ owing.old.limit }
 {
     let Some(value) = tentative.get(node) else {
-        return Ok(true);
+        return Ok(());
     };
     if !owes(snapshot, tentative, node, value) {
-        return Ok(true);
+        return Ok(());
     }
-    if !buckets.fits(value) {
-        return Ok(false);
-    }
-    buckets.put(node, value)?;
-    Ok(true)
+    owing.add(node)?;
+    Ok(())
 }
 
-/// Of the heads of these legs, queues those with a leg that leads to less than is known. Returns whether each of their values fits.
+/// Of the heads of these legs, remembers those with a leg that leads to less than is known.
 #[inline(always)]
-fn queue_heads<Q: BucketQueue>(
+fn remember_heads(
     snapshot: &Snapshot,
     tentative: &SharedTentative,
     legs: &[Leg],
-    buckets: &mut Q,
-) -> Result<bool, RowError>
+    owing: &mut Remembered,
+) -> Result<(), RowError>
     requires heads { All (λ leg. (1 ≤ leg.head) × (leg.head ≤ snapshot.now.nodes)) legs.now }
     requires search { IsSearch snapshot.now tentative.now map.empty 0 }
     requires small { top_of snapshot.now ≤ 2 ^ 56 }
-    ensures queued { OnOk result (AreQueued tentative.now (Q.entries buckets.old) → AreQueued tentative.now (Q.entries buckets.new)) }
-    ensures keeps { OnOk result ((u : ℕ) → IsSome (map.get (Q.entries buckets.old) u) → IsSome (map.get (Q.entries buckets.new) u)) }
-    ensures looked { IfOk result (λ fit. OnTrue fit (All (λ leg. IsNodeLooked snapshot.now tentative.now (Q.entries buckets.new) leg.head) legs.now)) }
-    ensures width { OnOk result (Q.width buckets.new ≡ Q.width buckets.old) }
-    ensures span { OnOk result (Q.span buckets.new ≡ Q.span buckets.old) }
+    requires limit { owing.old.limit ≡ snapshot.now.nodes + 1 }
+    ensures valued { OnOk result (HaveValues tentative.now owing.old.nodes → HaveValues tentative.now owing.new.nodes) }
+    ensures keeps { OnOk result ((u : ℕ) → Contains owing.old.nodes u → Contains owing.new.nodes u) }
+    ensures looked { OnOk result (All (λ leg. IsNodeLooked snapshot.now tentative.now (Contains owing.new.nodes) leg.head) legs.now) }
+    ensures limit { owing.new.limit ≡ owing.old.limit }
 {
     for leg in legs {
-        if !queue_owing(snapshot, tentative, leg.head, buckets)? {
-            return Ok(false);
-        }
+        remember_owing(snapshot, tentative, leg.head, owing)?;
     }
-    Ok(true)
+    Ok(())
 }
 
-/// Of the nodes with a leg to this node, queues those with a leg that leads to less than is known. For each leg, `back` has one from its head to its tail.
-/// Returns whether each of their values fits.
+/// Of the nodes with a leg to this node, remembers those with a leg that leads to less than is known. For each leg, `back` has one from its head to its tail.
 #[inline(always)]
-fn queue_tails<Q: BucketQueue>(
+fn remember_tails(
     snapshot: &Snapshot,
     back: &Snapshot,
     tentative: &SharedTentative,
     node: u32,
-    buckets: &mut Q,
-) -> Result<bool, RowError>
+    owing: &mut Remembered,
+) -> Result<(), RowError>
     requires nodes { back.now.nodes ≡ snapshot.now.nodes }
     requires search { IsSearch snapshot.now tentative.now map.empty 0 }
     requires small { top_of snapshot.now ≤ 2 ^ 56 }
-    ensures queued { OnOk result (AreQueued tentative.now (Q.entries buckets.old) → AreQueued tentative.now (Q.entries buckets.new)) }
-    ensures keeps { OnOk result ((u : ℕ) → IsSome (map.get (Q.entries buckets.old) u) → IsSome (map.get (Q.entries buckets.new) u)) }
-    ensures looked { IfOk result (λ fit. OnTrue fit (AreTailsLooked snapshot.now back.now tentative.now (Q.entries buckets.new) node)) }
-    ensures width { OnOk result (Q.width buckets.new ≡ Q.width buckets.old) }
-    ensures span { OnOk result (Q.span buckets.new ≡ Q.span buckets.old) }
+    requires limit { owing.old.limit ≡ snapshot.now.nodes + 1 }
+    ensures valued { OnOk result (HaveValues tentative.now owing.old.nodes → HaveValues tentative.now owing.new.nodes) }
+    ensures keeps { OnOk result ((u : ℕ) → Contains owing.old.nodes u → Contains owing.new.nodes u) }
+    ensures looked { OnOk result (AreTailsLooked snapshot.now back.now tentative.now (Contains owing.new.nodes) node) }
+    ensures limit { owing.new.limit ≡ owing.old.limit }
 {
-    if !queue_heads(snapshot, tentative, back.legs(node, Part::Light), buckets)? {
-        return Ok(false);
-    }
-    if !queue_heads(snapshot, tentative, back.legs(node, Part::Heavy), buckets)? {
-        return Ok(false);
-    }
-    Ok(true)
+    remember_heads(snapshot, tentative, back.legs(node, Part::Light), owing)?;
+    remember_heads(snapshot, tentative, back.legs(node, Part::Heavy), owing)?;
+    Ok(())
 }
 
-/// Queues the node, if it is one and some leg of it leads to less than is known. Returns whether its value fits.
+/// Remembers the node, if it is one and some leg of it leads to less than is known.
 #[inline(always)]
-fn queue_changed<Q: BucketQueue>(
+fn remember_changed(
     snapshot: &Snapshot,
     tentative: &SharedTentative,
     node: u32,
-    buckets: &mut Q,
-) -> Result<bool, RowError>
+    owing: &mut Remembered,
+) -> Result<(), RowError>
     requires search { IsSearch snapshot.now tentative.now map.empty 0 }
     requires small { top_of snapshot.now ≤ 2 ^ 56 }
-    ensures queued { OnOk result (AreQueued tentative.now (Q.entries buckets.old) → AreQueued tentative.now (Q.entries buckets.new)) }
-    ensures keeps { OnOk result ((u : ℕ) → IsSome (map.get (Q.entries buckets.old) u) → IsSome (map.get (Q.entries buckets.new) u)) }
-    ensures looked { IfOk result (λ fits. OnTrue fits (1 ≤ node → node ≤ snapshot.now.nodes → IsNodeLooked snapshot.now tentative.now (Q.entries buckets.new) node)) }
-    ensures width { OnOk result (Q.width buckets.new ≡ Q.width buckets.old) }
-    ensures span { OnOk result (Q.span buckets.new ≡ Q.span buckets.old) }
+    requires limit { owing.old.limit ≡ snapshot.now.nodes + 1 }
+    ensures valued { OnOk result (HaveValues tentative.now owing.old.nodes → HaveValues tentative.now owing.new.nodes) }
+    ensures keeps { OnOk result ((u : ℕ) → Contains owing.old.nodes u → Contains owing.new.nodes u) }
+    ensures looked { OnOk result (1 ≤ node → node ≤ snapshot.now.nodes → IsNodeLooked snapshot.now tentative.now (Contains owing.new.nodes) node) }
+    ensures limit { owing.new.limit ≡ owing.old.limit }
 {
     if !snapshot.has_node(node) {
-        return Ok(true);
+        return Ok(());
     }
-    queue_owing(snapshot, tentative, node, buckets)
+    remember_owing(snapshot, tentative, node, owing)
 }
 
-/// Of these nodes, queues those with a leg that leads to less than is known. Returns whether each of their values fits.
-fn queue_all_changed<Q: BucketQueue>(
+/// Of these nodes, remembers those with a leg that leads to less than is known.
+fn remember_all_changed(
     snapshot: &Snapshot,
     tentative: &SharedTentative,
     changed: &[u32],
-    buckets: &mut Q,
-) -> Result<bool, RowError>
+    owing: &mut Remembered,
+) -> Result<(), RowError>
     requires search { IsSearch snapshot.now tentative.now map.empty 0 }
     requires small { top_of snapshot.now ≤ 2 ^ 56 }
-    ensures queued { OnOk result (AreQueued tentative.now (Q.entries buckets.old) → AreQueued tentative.now (Q.entries buckets.new)) }
-    ensures looked { IfOk result (λ fit. OnTrue fit (All (λ u. 1 ≤ u → u ≤ snapshot.now.nodes → IsNodeLooked snapshot.now tentative.now (Q.entries buckets.new) u) changed.now)) }
-    ensures width { OnOk result (Q.width buckets.new ≡ Q.width buckets.old) }
-    ensures span { OnOk result (Q.span buckets.new ≡ Q.span buckets.old) }
+    requires limit { owing.old.limit ≡ snapshot.now.nodes + 1 }
+    ensures valued { OnOk result (HaveValues tentative.now owing.old.nodes → HaveValues tentative.now owing.new.nodes) }
+    ensures looked { OnOk result (All (λ u. 1 ≤ u → u ≤ snapshot.now.nodes → IsNodeLooked snapshot.now tentative.now (Contains owing.new.nodes) u) changed.now) }
+    ensures limit { owing.new.limit ≡ owing.old.limit }
 {
     for &node in changed {
-        if !queue_changed(snapshot, tentative, node, buckets)? {
-            return Ok(false);
-        }
+        remember_changed(snapshot, tentative, node, owing)?;
     }
-    Ok(true)
+    Ok(())
 }
 
-/// Queues, into an empty queue, each node with a leg that leads to less than is known: such a node has other legs than before, or a leg to a node that lost
-/// its value. Returns whether each of their values fits. It looks at the legs of those nodes alone.
-pub(crate) fn queue_near<Q: BucketQueue>(
+/// Remembers, where no node is remembered, each node with a leg that leads to less than is known: such a node has other legs than before, or a leg to a node
+/// that lost its value. It looks at the legs of those nodes alone.
+pub(crate) fn remember_near(
     snapshot: &Snapshot,
     before: &Snapshot,
     back: &Snapshot,
@@ -196,8 +186,8 @@ pub(crate) fn queue_near<Q: BucketQueue>(
     changed: &[u32],
     lost: &[u32],
     tentative: &SharedTentative,
-    buckets: &mut Q,
-) -> Result<bool, RowError>
+    owing: &mut Remembered,
+) -> Result<(), RowError>
     requires node { (1 ≤ source) × (source ≤ snapshot.now.nodes) }
     requires nodes { before.now.nodes ≡ snapshot.now.nodes }
     requires back_nodes { back.now.nodes ≡ snapshot.now.nodes }
@@ -207,20 +197,17 @@ pub(crate) fn queue_near<Q: BucketQueue>(
     requires kept { IsKeptOf source row.now tentative.now }
     requires listed { AreListed row.now tentative.now lost.now }
     requires search { IsSearch snapshot.now tentative.now map.empty 0 }
-    requires empty { Q.entries buckets.old ≡ map.empty }
-    ensures state { IfOk result (λ fit. OnTrue fit (IsBetweenFromReached snapshot.now tentative.now (Q.entries buckets.new))) }
-    ensures width { OnOk result (Q.width buckets.new ≡ Q.width buckets.old) }
-    ensures span { OnOk result (Q.span buckets.new ≡ Q.span buckets.old) }
+    requires none { owing.old ≡ record { limit = snapshot.now.nodes + 1; nodes = [] } }
+    ensures state { OnOk result ((queue : Entries) → AreJustQueued tentative.now owing.new.nodes queue → IsBetweenFromReached snapshot.now tentative.now queue) }
+    ensures valued { OnOk result (HaveValues tentative.now owing.new.nodes) }
+    ensures small { OnOk result (top_of snapshot.now ≤ 2 ^ 56) }
+    ensures limit { owing.new.limit ≡ snapshot.now.nodes + 1 }
 {
     let _older = before.nodes();
     let _newer = snapshot.nodes();
-    if !queue_all_changed(snapshot, tentative, changed, buckets)? {
-        return Ok(false);
-    }
+    remember_all_changed(snapshot, tentative, changed, owing)?;
     for &node in lost {
-        if !queue_tails(snapshot, back, tentative, node, buckets)? {
-            return Ok(false);
-        }
+        remember_tails(snapshot, back, tentative, node, owing)?;
     }
-    Ok(true)
+    Ok(())
 }

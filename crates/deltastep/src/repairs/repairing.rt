@@ -1,32 +1,43 @@
 //! A row repaired after a change of some arcs.
 
-ghost use Rattle.std.specs.Prelude.{◌≡◌, ◌≤◌, IfOk, IfSome};
+ghost use Rattle.std.specs.Prelude.{◌≡◌, ◌+◌, ◌≤◌, ◌^◌, [], IfOk, IfSome, OnOk};
 ghost use Rattle.std.specs.FinMap as map;
 ghost use Rattle.roadnet.specs.Net.{Net};
 ghost use Rattle.roadnet.specs.Walks.{RowOf};
 ghost use Rattle.snapshot.specs.Groups.{IsSnapshotOf};
-ghost use Rattle.deltastep.specs.Search.{IsBetweenBuckets, IsBetweenFromReached, IsSearch, IsSuited};
+ghost use Rattle.frontier.specs.Entries.{IsFresh};
+ghost use Rattle.deltastep.specs.Search.{IsBetweenFromReached, IsSearch, most_lists};
 ghost use Rattle.deltastep.specs.Repair.{AreTails, AreListed, AreChanged, IsKeptOf};
 
-use crate::repairs::near::queue_near;
+use crate::repairs::near::remember_near;
 use crate::repairs::remaining::{Remains, remaining};
 use crate::repairs::untouched::untouched_row;
 use crate::rows::distances::{Distances, RowError};
 use crate::searches::search::Search;
-use crate::searches::stepping::{ring_size, row_in};
+use crate::searches::stepping::row_in;
 use crate::searches::workspace::Workspace;
-use buckets::{BucketQueue, OrderedBuckets, RingBuckets};
-use frontier::Mended;
-use relax::{SharedTentative, Team};
+use frontier::{EntryRing, Frontier, LazyRing, Mended, Remembered};
+use relax::Team;
 use snapshot::Snapshot;
 use std::alloc::Global;
 
-/// The most lists of a ring of buckets. A ring with so many holds values that are far apart, as those are with which a repair begins.
-const MOST_LISTS: u32 = 65536;
+/// The fewest lists of the ring of a repair.
+const FEWEST_LISTS: usize = 1024;
 
-/// The nodes from which a repair goes on, queued in a ring, if a ring may have as many lists as the snapshot needs and their values fit it. The ring is that of
-/// the workspace, if it has one, otherwise a new one.
-fn queued_in_ring(
+/// The most lists of a ring.
+const MOST_LISTS: usize = 65536;
+
+/// How many lists the ring of a repair has, where so many nodes lost their value: as many, within limits. So a small repair makes a small ring, and a large
+/// one seldom deals what waits in the bag.
+fn lists_for(lost: usize) -> u32
+    ensures some { 1 ≤ result }
+    ensures few { result ≤ most_lists }
+{
+    lost.clamp(FEWEST_LISTS, MOST_LISTS) as u32
+}
+
+/// The frontier from which a repair goes on: what remains of the row, and the nodes with a leg that leads to less than is known.
+fn resumed(
     alloc: Global,
     snapshot: &Snapshot,
     source: u32,
@@ -34,145 +45,38 @@ fn queued_in_ring(
     old: &Distances,
     changed: &[u32],
     back: &Snapshot,
-    remains: &Remains,
-    workspace: &mut Workspace,
-) -> Result<Option<RingBuckets>, RowError>
+    remains: Remains,
+    ring: EntryRing,
+    remembered: &mut Remembered,
+) -> Result<LazyRing<Mended>, RowError>
     requires node { (1 ≤ source) × (source ≤ snapshot.now.nodes) }
     requires nodes { before.now.nodes ≡ snapshot.now.nodes }
     requires old { (net : Net) × IsSnapshotOf net before.now × RowOf net source old.now }
     requires changed { AreChanged before.now snapshot.now changed.now }
     requires back_nodes { back.now.nodes ≡ snapshot.now.nodes }
     requires tails { AreTails back.now snapshot.now }
-    requires kept { IsKeptOf source old.now remains.now.tentative }
-    requires listed { AreListed old.now remains.now.tentative remains.now.lost.items }
-    requires search { IsSearch snapshot.now remains.now.tentative map.empty 0 }
-    ensures state { IfOk result (λ made. IfSome made (λ queue. IsBetweenFromReached snapshot.now remains.now.tentative (⟦<RingBuckets as BucketQueue>⟧.entries queue))) }
-    ensures suited { IfOk result (λ made. IfSome made (λ queue. IsSuited snapshot.now (⟦<RingBuckets as BucketQueue>⟧.width queue) (⟦<RingBuckets as BucketQueue>⟧.span queue))) }
+    requires kept { IsKeptOf source old.now remains.tentative }
+    requires listed { AreListed old.now remains.tentative remains.lost.items }
+    requires search { IsSearch snapshot.now remains.tentative map.empty 0 }
+    requires ring { IsFresh ring.delta ring.last ring.lists.items snapshot.now.delta 1 }
+    requires none { remembered.old ≡ record { limit = snapshot.now.nodes + 1; nodes = [] } }
+    ensures state { IfOk result (λ made. IsBetweenFromReached snapshot.now (⟦<LazyRing<Mended> as Frontier>⟧.tentative made) (⟦<LazyRing<Mended> as Frontier>⟧.entries made)) }
+    ensures tentative { IfOk result (λ made. ⟦<LazyRing<Mended> as Frontier>⟧.tentative made ≡ remains.tentative) }
+    ensures width { IfOk result (λ made. ⟦<LazyRing<Mended> as Frontier>⟧.width made ≡ snapshot.now.delta) }
+    ensures span { IfOk result (λ made. ⟦<LazyRing<Mended> as Frontier>⟧.span made ≡ 2 ^ 64) }
+    ensures none { OnOk result (remembered.new ≡ record { limit = snapshot.now.nodes + 1; nodes = [] }) }
 {
-    if ring_size(snapshot).is_none() {
-        return Ok(None);
-    }
-    let mut queue = workspace.take_queue(alloc, snapshot.delta(), MOST_LISTS)?;
-    if !queue_near(
-        snapshot,
-        before,
-        back,
-        source,
-        old,
-        changed,
-        &remains.lost,
-        &remains.tentative,
-        &mut queue,
-    )? {
-        return Ok(None);
-    }
-    Ok(Some(queue))
-}
-
-/// The nodes from which a repair goes on, queued in ordered buckets, if their values fit.
-fn queued_in_order(
-    alloc: Global,
-    snapshot: &Snapshot,
-    source: u32,
-    before: &Snapshot,
-    old: &Distances,
-    changed: &[u32],
-    back: &Snapshot,
-    remains: &Remains,
-) -> Result<Option<OrderedBuckets>, RowError>
-    requires node { (1 ≤ source) × (source ≤ snapshot.now.nodes) }
-    requires nodes { before.now.nodes ≡ snapshot.now.nodes }
-    requires old { (net : Net) × IsSnapshotOf net before.now × RowOf net source old.now }
-    requires changed { AreChanged before.now snapshot.now changed.now }
-    requires back_nodes { back.now.nodes ≡ snapshot.now.nodes }
-    requires tails { AreTails back.now snapshot.now }
-    requires kept { IsKeptOf source old.now remains.now.tentative }
-    requires listed { AreListed old.now remains.now.tentative remains.now.lost.items }
-    requires search { IsSearch snapshot.now remains.now.tentative map.empty 0 }
-    ensures state { IfOk result (λ made. IfSome made (λ queue. IsBetweenFromReached snapshot.now remains.now.tentative (⟦<OrderedBuckets as BucketQueue>⟧.entries queue))) }
-    ensures suited { IfOk result (λ made. IfSome made (λ queue. IsSuited snapshot.now (⟦<OrderedBuckets as BucketQueue>⟧.width queue) (⟦<OrderedBuckets as BucketQueue>⟧.span queue))) }
-{
-    let mut queue = OrderedBuckets::new(alloc, snapshot.delta());
-    if !queue_near(
-        snapshot,
-        before,
-        back,
-        source,
-        old,
-        changed,
-        &remains.lost,
-        &remains.tentative,
-        &mut queue,
-    )? {
-        return Ok(None);
-    }
-    Ok(Some(queue))
-}
-
-/// The row of `source`, by a search that continues from these values and this queue; and the queue as the search leaves it. It is nothing if a length does not
-/// fit into 4 bytes.
-#[inline(always)]
-fn goes_on<Q: BucketQueue + Drop, T: Team>(
-    alloc: Global,
-    snapshot: &Snapshot,
-    source: u32,
-    tentative: SharedTentative,
-    buckets: Q,
-    team: &T,
-    workspace: &mut Workspace,
-) -> Result<Option<(Distances, Q)>, RowError>
-    requires node { (1 ≤ source) × (source ≤ snapshot.now.nodes) }
-    requires state { IsBetweenBuckets snapshot.now source tentative (Q.entries buckets) }
-    requires suited { IsSuited snapshot.now (Q.width buckets) (Q.span buckets) }
-    ensures row { IfOk result (λ found. IfSome found (λ made. (net : Net) → IsSnapshotOf net snapshot.now → RowOf net source made.0)) }
-{
-    let mut remembered = workspace.take_remembered(alloc, snapshot.nodes() as usize + 1)?;
-    let mut search = Search {
-        frontier: Mended {
-            tentative,
-            buckets,
-            is_beyond: false,
-        },
-    };
-    if let Err(error) = search.settle_all(alloc, snapshot, team, &mut remembered) {
-        if search.frontier.is_beyond {
-            return Ok(None);
-        }
-        return Err(error);
-    }
-    workspace.keep_remembered(remembered);
-    let Search { frontier } = search;
-    let Mended {
+    let Remains { tentative, lost } = remains;
+    remember_near(
+        snapshot, before, back, source, old, changed, &lost, &tentative, remembered,
+    )?;
+    let values = Mended {
         tentative,
-        buckets,
-        is_beyond: _,
-    } = frontier;
-    let row = Distances::from_tentative(alloc, tentative)?;
-    Ok(Some((row, buckets)))
-}
-
-/// The row of `source`, by a search that continues from these values and this ring, which it leaves in the workspace. It is nothing if a length does not fit
-/// into 4 bytes.
-fn in_ring<T: Team>(
-    alloc: Global,
-    snapshot: &Snapshot,
-    source: u32,
-    tentative: SharedTentative,
-    queue: RingBuckets,
-    team: &T,
-    workspace: &mut Workspace,
-) -> Result<Option<Distances>, RowError>
-    requires node { (1 ≤ source) × (source ≤ snapshot.now.nodes) }
-    requires state { IsBetweenBuckets snapshot.now source tentative (⟦<RingBuckets as BucketQueue>⟧.entries queue) }
-    requires suited { IsSuited snapshot.now (⟦<RingBuckets as BucketQueue>⟧.width queue) (⟦<RingBuckets as BucketQueue>⟧.span queue) }
-    ensures row { IfOk result (λ made. IfSome made (λ row. (net : Net) → IsSnapshotOf net snapshot.now → RowOf net source row)) }
-{
-    let Some((row, queue)) = goes_on(alloc, snapshot, source, tentative, queue, team, workspace)?
-    else {
-        return Ok(None);
+        is_beyond: false,
     };
-    workspace.keep_queue(queue);
-    Ok(Some(row))
+    let made = LazyRing::resumed(alloc, values, ring, remembered.nodes())?;
+    remembered.clear();
+    Ok(made)
 }
 
 /// The row of `source`, by a search that continues from what remains of its row before a change, found by way of the legs back. It is nothing if too little
@@ -199,38 +103,37 @@ fn repaired<T: Team>(
     let Some(remains) = remaining(alloc, before, snapshot, source, old, changed)? else {
         return Ok(None);
     };
-    if let Some(queue) = queued_in_ring(
-        alloc, snapshot, source, before, old, changed, back, &remains, workspace,
-    )? {
-        return in_ring(
-            alloc,
-            snapshot,
-            source,
-            remains.tentative,
-            queue,
-            team,
-            workspace,
-        );
-    }
-    let Some(queue) = queued_in_order(
-        alloc, snapshot, source, before, old, changed, back, &remains,
-    )?
-    else {
-        return Ok(None);
-    };
-    let made = goes_on(
+    let lists = lists_for(remains.lost.len());
+    let ring = workspace.take_ring(alloc, snapshot.delta(), lists)?;
+    let mut remembered = workspace.take_remembered(alloc, snapshot.nodes() as usize + 1)?;
+    let frontier = resumed(
         alloc,
         snapshot,
         source,
-        remains.tentative,
-        queue,
-        team,
-        workspace,
+        before,
+        old,
+        changed,
+        back,
+        remains,
+        ring,
+        &mut remembered,
     )?;
-    match made {
-        Some((row, _queue)) => Ok(Some(row)),
-        None => Ok(None),
+    let mut search = Search { frontier };
+    if let Err(error) = search.settle_all(alloc, snapshot, team, &mut remembered) {
+        if search.frontier.values().is_beyond {
+            return Ok(None);
+        }
+        return Err(error);
     }
+    workspace.keep_remembered(remembered);
+    let Search { frontier } = search;
+    let (values, ring) = frontier.into_parts();
+    workspace.keep_ring(ring, snapshot.nodes());
+    let Mended {
+        tentative,
+        is_beyond: _,
+    } = values;
+    Ok(Some(Distances::from_tentative(alloc, tentative)?))
 }
 
 /// The row of `source` in a network, made from its row in the network before a change. It is the row that `row_in` makes, whatever the workspace holds, and
@@ -239,9 +142,10 @@ fn repaired<T: Team>(
 /// `before` and `snapshot` are the snapshots of the two networks, which have the same nodes. `changed` has each node that does not have the same legs in
 /// both, as `changed_nodes` gives them. For each leg of the new snapshot, `back` has one from its head to its tail. Nodes whose shortest walks may use a leg
 /// that is gone lose their distance, and so do the nodes that depend on these. Then the search continues from the nodes with a leg that leads to less than
-/// is known. It takes time only for what was lost and changed, with the legs around it, and a counter for each chunk of the row; and memory for the chunks in
-/// which a word is written: the others are those of the row before. If a quarter of the nodes or more lose their distance, or a length does not fit into 4
-/// bytes, or the row before was not kept in words of 4 bytes, the row is made anew. Its only error is lack of memory.
+/// is known. It takes time for what was lost and changed, with the legs around it, a counter for each chunk of the row, and a byte a node where the workspace
+/// has none. It takes memory for those bytes, for the ring, and for the chunks in which a word is written: the others are those of the row before. If a
+/// quarter of the nodes or more lose their distance, or a length does not fit into 4 bytes, or the row before was not kept in words of 4 bytes, the row is
+/// made anew. Its only error is lack of memory.
 pub fn row_after<T: Team>(
     alloc: Global,
     snapshot: &Snapshot,

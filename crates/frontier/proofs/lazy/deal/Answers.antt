@@ -7,33 +7,33 @@ use Rattle.frontier.proofs.Bags.{AreKept-cleared, all_queued-dead, all_queued-de
 use Rattle.frontier.proofs.lazy.deal.Goals as goal
 
 pub least_live-requires : goal.least_live-requires
-least_live-requires c =
+least_live-requires g c =
     let bag = c.args.bag.now.items in
-    record { nodes = rw c.deref.ensures.value (λ k d lt. bag_nodes c.args.tentative.now c.args.ring.now.delta c.args.bound.now bag c.requires.kept.rest (get_or bag k d) (Contains-get_or bag k d lt)) }
+    record { nodes = rw c.deref.ensures.value (λ k d lt. bag_nodes (g.V.SearchValues.values c.args.tentative.now) c.args.ring.now.delta c.args.bound.now bag c.requires.kept.rest (get_or bag k d) (Contains-get_or bag k d lt)) }
 
 pub returns-in_default-clause-kept : goal.returns-in_default-clause-kept
-returns-in_default-clause-kept c = AreKept-cleared c.args.tentative.now c.args.ring.now.delta c.args.bound.now c.args.ring.now.lists.items c.args.bag.now.items c.clear.new.self.items c.requires.kept c.clear.ensures.items
+returns-in_default-clause-kept g c = AreKept-cleared (g.V.SearchValues.values c.args.tentative.now) c.args.ring.now.delta c.args.bound.now c.args.ring.now.lists.items c.args.bag.now.items c.clear.new.self.items c.requires.kept c.clear.ensures.items
 
 pub returns-in_default-clause-same : goal.returns-in_default-clause-same
-returns-in_default-clause-same c =
-    let t = c.args.tentative.now in
+returns-in_default-clause-same g c =
+    let t = (g.V.SearchValues.values c.args.tentative.now) in
     let ring = c.args.ring.now in
     let dead : AreDead t c.args.bag.now.items = subst (λ (l : List (ℕ × ℕ)). AreDead t l) c.deref.ensures.value c.in_default.ensures in
     all_queued-empty t ring.delta ring.lists.items c.clear.new.self.items c.requires.none c.clear.ensures.items ∙ sym (all_queued-dead t ring.delta ring.lists.items c.args.bag.now.items c.requires.none dead)
 
 pub returns-in_default-clause-some : goal.returns-in_default-clause-some
-returns-in_default-clause-some c _ = all_queued-empty c.args.tentative.now c.args.ring.now.delta c.args.ring.now.lists.items c.clear.new.self.items c.requires.none c.clear.ensures.items
+returns-in_default-clause-some g c _ = all_queued-empty (g.V.SearchValues.values c.args.tentative.now) c.args.ring.now.delta c.args.ring.now.lists.items c.clear.new.self.items c.requires.none c.clear.ensures.items
 
 pub deal_all-dealt-requires-clause-nodes : goal.deal_all-dealt-requires-clause-nodes
-deal_all-dealt-requires-clause-nodes c =
+deal_all-dealt-requires-clause-nodes g c =
     let bag = c.args.bag.now.items in
     let is : c.deref-2.result.now ≡ c.args.bag.now.items = c.deref-2.ensures.value ∙ ap (λ (l : Vec (ℕ × ℕ)). l.items) c.swap.ensures.y_after in
-    rw is (λ k d lt. bag_nodes c.args.tentative.now c.args.ring.now.delta c.args.bound.now bag c.requires.kept.rest (get_or bag k d) (Contains-get_or bag k d lt))
+    rw is (λ k d lt. bag_nodes (g.V.SearchValues.values c.args.tentative.now) c.args.ring.now.delta c.args.bound.now bag c.requires.kept.rest (get_or bag k d) (Contains-get_or bag k d lt))
 
 pub deal_all-dealt-requires-clause-from : goal.deal_all-dealt-requires-clause-from
-deal_all-dealt-requires-clause-from c e there live =
+deal_all-dealt-requires-clause-from g c e there live =
     let ring = c.args.ring.now in
-    let t = c.args.tentative.now in
+    let t = (g.V.SearchValues.values c.args.tentative.now) in
     let is : c.deref-2.result.now ≡ c.args.bag.now.items = c.deref-2.ensures.value ∙ ap (λ (l : Vec (ℕ × ℕ)). l.items) c.swap.ensures.y_after in
     let least_is : IsLeastLive t c.args.bag.now.items c.in-Some.least = subst (λ (l : List (ℕ × ℕ)). IsLeastLive t l c.in-Some.least) c.deref.ensures.value c.in-Some.ensures in
     let wide : c.empty.new.self.delta ≡ ring.delta = c.empty.ensures.fresh.wide in
@@ -43,14 +43,14 @@ deal_all-dealt-requires-clause-from c e there live =
     subst (λ (n : ℕ). n ≤ e.1 / c.begin_at.new.self.delta) (sym last) (subst (λ (d : ℕ). c.in-Some.least / ring.delta ≤ e.1 / d) (sym width) low)
 
 pub deal_all-dealt-requires-clause-small : goal.deal_all-dealt-requires-clause-small
-deal_all-dealt-requires-clause-small c =
+deal_all-dealt-requires-clause-small g c =
     let bag = c.args.bag.now.items in
     let is : c.deref-2.result.now ≡ c.args.bag.now.items = c.deref-2.ensures.value ∙ ap (λ (l : Vec (ℕ × ℕ)). l.items) c.swap.ensures.y_after in
     rw is (λ k d lt. c.requires.kept.rest.small (get_or bag k d) (Contains-get_or bag k d lt))
 
 pub returns-clause-same : goal.returns-clause-same
-returns-clause-same c =
-    let t = c.args.tentative.now in
+returns-clause-same g c =
+    let t = (g.V.SearchValues.values c.args.tentative.now) in
     let ring = c.args.ring.now in
     let bag = c.args.bag.now.items in
     let n = c.deal_all-dealt.new.ring in
@@ -61,8 +61,8 @@ returns-clause-same c =
     rw width (all_queued-dealt t ring.delta ring.lists.items n.lists.items bag b.items c.requires.none dealt)
 
 pub returns-clause-some : goal.returns-clause-some
-returns-clause-some c over =
-    let t = c.args.tentative.now in
+returns-clause-some g c over =
+    let t = (g.V.SearchValues.values c.args.tentative.now) in
     let ring = c.args.ring.now in
     let bag = c.args.bag.now.items in
     let n = c.deal_all-dealt.new.ring in

@@ -3,4 +3,4 @@ use Rattle.frontier.specs.Live.{IsLeastOf}
 use Rattle.frontier.proofs.lazy.least_live.Given as goal
 
 abbrev pub invariant-loop-entry : goal.invariant-loop-entry
-invariant-loop-entry l = IsLeastOf l.tentative (take l.entry-index l.entries) l.least
+invariant-loop-entry g l = IsLeastOf (g.V.SearchValues.values l.tentative) (take l.entry-index l.entries) l.least

@@ -12,6 +12,7 @@ import select
 import socket
 import stat
 import subprocess
+import termios
 import time
 from collections.abc import Sequence
 
@@ -161,12 +162,17 @@ class Pair(Wire):
     """A pair of named pipes, whose lease is a lock of FOLDER/N.lock, as it is for examples/attach.sh."""
 
     def __init__(self, name: str, lock: int, until: float) -> None:
-        # A session of no line: what one before left is read to its end, and the server has closed both pipes behind it.
-        before = Wire(*opened(name, until))
-        before.close(until - time.monotonic())
-        if not before.has_ended:
-            raise Late(f"{name}: its server is busy with a client who has gone")
-        super().__init__(*opened(name, until))
+        # Sessions of no line: what one before left is read to its end, and the server has closed both pipes behind it. It may have come back to the first one so
+        # early that lines are left there: then one more.
+        source, sink, _ = opened(name, until)
+        is_left = True
+        while is_left:
+            before = Wire(source, sink)
+            before.close(until - time.monotonic())
+            if not before.has_ended:
+                raise Late(f"{name}: its server is busy with a client who has gone")
+            source, sink, is_left = opened(name, until)
+        super().__init__(source, sink)
         self.lock = lock
 
     def close(self, seconds: float) -> int | None:
@@ -187,8 +193,8 @@ def pipe(path: str, flags: int) -> int:
         raise Lost(f"{path}: it is no named pipe")
     return descriptor
 
-def opened(name: str, until: float) -> tuple[int, int]:
-    """Where answers come from and where lines go, once a server waits for a client there."""
+def opened(name: str, until: float) -> tuple[int, int, bool]:
+    """Where answers come from and where lines go, once a server waits for a client there; and whether lines are there already, which a server reads only behind this."""
     while True:
         try:
             sink = pipe(f"{name}.in", os.O_WRONLY)
@@ -197,8 +203,9 @@ def opened(name: str, until: float) -> tuple[int, int]:
             if time.monotonic() > until:
                 raise Late(f"{name}.in: no server waits for a client there") from None
         time.sleep(0.002)
+    is_left = any(fcntl.ioctl(sink, termios.FIONREAD, bytes(4)))
     try:
-        return pipe(f"{name}.out", os.O_RDONLY), sink
+        return pipe(f"{name}.out", os.O_RDONLY), sink, is_left
     except Lost:
         os.close(sink)
         raise

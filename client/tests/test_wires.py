@@ -266,6 +266,8 @@ class Pairs(unittest.TestCase):
                                 sink.write(f"v {self.sessions}\n".encode())
                             except BrokenPipeError:
                                 break
+                        # As the server does: who sees the end of the answers finds no one at the other pipe who goes.
+                        source.close()
         self.threads.append(threading.Thread(target=door))
         self.threads[-1].start()
 
@@ -285,6 +287,23 @@ class Pairs(unittest.TestCase):
             sink.write(b"wait\nwait\nset 1")
         with self.lease() as session:
             self.assertEqual(session.wait(), 2)
+
+    def test_lines_at_which_the_server_is_back_early_are_thrown_away(self) -> None:
+        """They are in the pipe once the session of no line is over, as where that client was still there when the server opened the pipe again."""
+        real, calls = roadmark_wires.opened, 0
+
+        def opened(name: str, until: float) -> tuple[int, int, bool]:
+            nonlocal calls
+            calls += 1
+            if calls == 2:
+                with open(f"{name}.in", "wb", buffering=0) as sink:
+                    sink.write(b"wait\n")
+            return real(name, until)
+        self.serve(1)
+        with mock.patch.object(roadmark_wires, "opened", opened):
+            session = self.lease()
+        self.assertEqual((session.wait(), calls), (2, 3))
+        session.close()
 
     def test_a_lease_is_a_lock_of_the_pair(self) -> None:
         self.serve(1)

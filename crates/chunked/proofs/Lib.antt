@@ -1,3 +1,3 @@
 pub mod Joined
 pub mod Items
-pub mod OfChunks
+pub mod OfTables

@@ -1,47 +1,61 @@
 ghost use Rattle.std.specs.Prelude.{◌≡◌};
 
 use crate::chunks::{CHUNK, Chunk, put};
+use crate::table::Table;
+use crate::tables::{TABLE, chunk_at, lay, share};
 use std::alloc::{AllocError, Global};
 use std::marker::Model;
 use std::sync::Arc;
 
-/// An array in chunks of 1,024 items, which its versions share. To share it costs a counter for each chunk, and a change copies the one
-/// chunk that it touches, unless nobody else has that chunk.
+/// An array in chunks of 1,024 items, and these in tables of 64, which its versions share. To share it costs a counter for each table, and a change copies the
+/// one chunk that it touches and the table of that one, unless nobody else has them.
 #[derive(Drop)]
 pub struct ChunkedArray<T> {
     pub(crate) len: usize,
-    pub(crate) chunks: Vec<Arc<Chunk<T>>>,
+    pub(crate) tables: Vec<Arc<Table<Chunk<T>>>>,
 }
 
 impl<T> Model for ChunkedArray<T> {
     ghost use Rattle.std.specs.Prelude.{◌≤◌, ◌*◌, List, take, length, flat_map};
+    ghost use Rattle.chunked.specs.Tables.{chunks_of};
 
     ghost Value = { List T };
 
-    ghost view = { λ a. take a.len (flat_map (λ chunk. chunk.value.items.items) a.chunks.items) };
+    ghost view = { λ a. take a.len (flat_map (λ chunk. chunk.items.items) (chunks_of a.tables.items)) };
 
-    ghost invariant = { λ a. a.len ≤ length a.chunks.items * 1024 };
+    ghost invariant = { λ a. a.len ≤ length a.tables.items * 65536 };
 }
 
 impl<T: Copy + Drop> ChunkedArray<T> {
-    ghost use Rattle.std.specs.Prelude.{◌≡◌, ◌≤◌, ◌<◌, ◌+◌, ◌*◌, ◌^◌, ◌++◌, [], ◌∷◌, length, IfOk, OnOk, OnErr, slice_index_or, slice_set};
+    ghost use Rattle.std.specs.Prelude.{◌≡◌, ◌≤◌, ◌<◌, ◌+◌, ◌%◌, ◌^◌, ◌++◌, [], ◌∷◌, length, IfOk, OnOk, OnErr, slice_index_or, slice_set};
     ghost use Rattle.chunked.specs.Chunks.{chunk_of, chunk_count};
 
     /// These items.
     pub fn from_slice(alloc: Global, items: &[T]) -> Result<ChunkedArray<T>, AllocError>
         ensures { IfOk result (λ array. array ≡ items.now) }
     {
-        let chunk_count = items.len().div_ceil(CHUNK);
-        let mut chunks = Vec::with_capacity(alloc, chunk_count)?;
-        for k in 0..chunk_count {
+        let tables = Vec::with_capacity(alloc, items.len().div_ceil(TABLE))?;
+        let mut array = ChunkedArray { len: 0, tables };
+        for k in 0..items.len().div_ceil(CHUNK) {
             let from = k * CHUNK;
-            let part = &items[from..from + CHUNK.min(items.len() - from)];
-            chunks.push(Arc::new(alloc, Chunk::beginning(alloc, part)?)?)?;
+            array.append(alloc, &items[from..from + CHUNK.min(items.len() - from)])?;
         }
-        Ok(ChunkedArray {
-            len: items.len(),
-            chunks,
-        })
+        Ok(array)
+    }
+
+    /// Adds the next items, 1 to 1,024, behind items that fill their chunks. The one error is want of memory, and the array is as it was.
+    fn append(&mut self, alloc: Global, items: &[T]) -> Result<(), AllocError>
+        requires whole { length self.old % 1024 ≡ 0 }
+        requires room { length self.old + length items.now < 2 ^ 64 }
+        requires some { 0 < length items.now }
+        requires few { length items.now ≤ 1024 }
+        ensures ok { OnOk result (self.new ≡ self.old ++ items.now) }
+        ensures err { OnErr result (self.new ≡ self.old) }
+    {
+        let chunk = Arc::new(alloc, Chunk::beginning(alloc, items)?)?;
+        lay(alloc, &mut self.tables, self.len / CHUNK, chunk)?;
+        self.len += items.len();
+        Ok(())
     }
 
     /// The number of items.
@@ -56,8 +70,7 @@ impl<T: Copy + Drop> ChunkedArray<T> {
         requires place { place < length self.now }
         ensures item { (d : T) → slice_index_or self.now place d ≡ result.now }
     {
-        let chunk = &self.chunks[place / CHUNK];
-        &chunk.items[place % CHUNK]
+        &chunk_at(&self.tables, place / CHUNK).items[place % CHUNK]
     }
 
     /// How many chunks the items take.
@@ -74,30 +87,29 @@ impl<T: Copy + Drop> ChunkedArray<T> {
         if k >= self.len.div_ceil(CHUNK) {
             return &[];
         }
-        let chunk = &self.chunks[k];
-        &chunk.items[..CHUNK.min(self.len - k * CHUNK)]
+        &chunk_at(&self.tables, k).items[..CHUNK.min(self.len - k * CHUNK)]
     }
 
-    /// The same array once more: it costs a counter for each chunk.
+    /// The same array once more: it costs a counter for each table.
     pub fn share(&self) -> Result<ChunkedArray<T>, AllocError>
         ensures { IfOk result (λ shared. shared ≡ self.now) }
     {
-        let chunks = self.chunks.clone()?;
+        let tables = share(&self.tables)?;
         Ok(ChunkedArray {
             len: self.len,
-            chunks,
+            tables,
         })
     }
 
-    /// Replaces the item at a place: in place, where nobody else has its chunk, else in a copy of the chunk. The one error is want of memory for that, and
-    /// the array is as it was.
+    /// Replaces the item at a place: in place, where nobody else has its chunk, else in a copy. The one error is want of memory for that, and the array is as
+    /// it was.
     pub fn set(&mut self, place: usize, value: T) -> Result<(), AllocError>
         requires place { place < length self.old }
         ensures ok { OnOk result (self.new ≡ slice_set self.old place value) }
         ensures err { OnErr result (self.new ≡ self.old) }
     {
-        let alloc = *self.chunks.allocator();
-        put(alloc, &mut self.chunks[place / CHUNK], place % CHUNK, value)
+        let alloc = *self.tables.allocator();
+        put(alloc, &mut self.tables[place / TABLE], place % TABLE, value)
     }
 
     /// Adds an item at the end. The one error is want of memory, and the array is as it was.
@@ -106,15 +118,15 @@ impl<T: Copy + Drop> ChunkedArray<T> {
         ensures ok { OnOk result (self.new ≡ self.old ++ value ∷ []) }
         ensures err { OnErr result (self.new ≡ self.old) }
     {
-        let alloc = *self.chunks.allocator();
+        let alloc = *self.tables.allocator();
         let place = self.len;
-        if place / CHUNK < self.chunks.len() {
-            put(alloc, &mut self.chunks[place / CHUNK], place % CHUNK, value)?;
+        if place % CHUNK == 0 {
+            let chunk = Arc::new(alloc, Chunk::filled(alloc, value)?)?;
+            lay(alloc, &mut self.tables, place / CHUNK, chunk)?;
             self.len = place + 1;
             return Ok(());
         }
-        let chunk = Chunk::filled(alloc, value)?;
-        self.chunks.push(Arc::new(alloc, chunk)?)?;
+        put(alloc, &mut self.tables[place / TABLE], place % TABLE, value)?;
         self.len = place + 1;
         Ok(())
     }

@@ -1,5 +1,7 @@
-ghost use Rattle.std.specs.Prelude.{◌≡◌, ◌≤◌, ◌<◌, length, IfOk, OnOk, OnErr, replicate, take, slice_set};
+ghost use Rattle.std.specs.Prelude.{◌≡◌, ◌≤◌, ◌<◌, length, IfOk, OnOk, OnErr, flat_map, replicate, take, slice_set};
+ghost use Rattle.chunked.specs.Tables.{table_chunks};
 
+use crate::table::Table;
 use std::alloc::{AllocError, Global};
 use std::sync::Arc;
 
@@ -47,7 +49,7 @@ impl<T: Copy + Drop> Chunk<T> {
 }
 
 /// Replaces an item of a chunk: in place, where nobody else has the chunk, else in a copy of it.
-pub(crate) fn put<T: Copy + Drop>(
+fn put_in_chunk<T: Copy + Drop>(
     alloc: Global,
     chunk: &mut Arc<Chunk<T>>,
     place: usize,
@@ -63,5 +65,30 @@ pub(crate) fn put<T: Copy + Drop>(
     }
     let changed = chunk.with(alloc, place, value)?;
     *chunk = Arc::new(alloc, changed)?;
+    Ok(())
+}
+
+/// Replaces an item of a table: in place, where nobody else has the table and the item's chunk, else in a copy of what others have.
+pub(crate) fn put<T: Copy + Drop>(
+    alloc: Global,
+    table: &mut Arc<Table<Chunk<T>>>,
+    place: usize,
+    value: T,
+) -> Result<(), AllocError>
+    requires place { place < 65536 }
+    ensures ok { OnOk result (flat_map (λ chunk. chunk.items.items) (table_chunks table.new.value) ≡ slice_set (flat_map (λ chunk. chunk.items.items) (table_chunks table.old.value)) place value) }
+    ensures err { OnErr result (table_chunks table.new.value ≡ table_chunks table.old.value) }
+{
+    if let Some(own) = Arc::get_mut(table) {
+        return put_in_chunk(alloc, &mut own.chunks[place / CHUNK], place % CHUNK, value);
+    }
+    let mut changed = table.share()?;
+    put_in_chunk(
+        alloc,
+        &mut changed.chunks[place / CHUNK],
+        place % CHUNK,
+        value,
+    )?;
+    *table = Arc::new(alloc, changed)?;
     Ok(())
 }

@@ -3,6 +3,8 @@
 
 mod arrays;
 mod chunks;
+mod table;
+mod tables;
 mod words;
 
 pub use arrays::ChunkedArray;

@@ -1,6 +1,9 @@
-ghost use Rattle.std.specs.Prelude.{◌≡◌, ◌≤◌, ◌<◌, length, OnOk, OnErr, slice_set, take};
+ghost use Rattle.std.specs.Prelude.{◌≡◌, ◌≤◌, ◌<◌, length, OnOk, OnErr, flat_map, slice_set, take};
+ghost use Rattle.chunked.specs.Tables.{table_chunks};
 
 use crate::chunks::CHUNK;
+use crate::table::Table;
+use crate::tables::{TABLE, chunk_at, lay, share};
 use std::alloc::{AllocError, Global};
 use std::marker::Model;
 use std::sync::Arc;
@@ -25,7 +28,12 @@ fn beginning(words: &[u32]) -> WordChunk
 }
 
 /// Replaces a word of a chunk: in place, where nobody else has the chunk, else in a copy of it.
-fn put(alloc: Global, chunk: &mut Arc<WordChunk>, place: usize, word: u32) -> Result<(), AllocError>
+fn put_in_chunk(
+    alloc: Global,
+    chunk: &mut Arc<WordChunk>,
+    place: usize,
+    word: u32,
+) -> Result<(), AllocError>
     requires place { place < 1024 }
     ensures ok { OnOk result (chunk.new.value.words ≡ slice_set chunk.old.value.words place word) }
     ensures err { OnErr result (chunk.new ≡ chunk.old) }
@@ -40,38 +48,65 @@ fn put(alloc: Global, chunk: &mut Arc<WordChunk>, place: usize, word: u32) -> Re
     Ok(())
 }
 
-/// Words of 4 bytes in chunks of 1,024, which versions of them share, as a `ChunkedArray` does. A word is read by two loads.
+/// Replaces a word of a table: in place, where nobody else has the table and the word's chunk, else in a copy of what others have.
+fn put(
+    alloc: Global,
+    table: &mut Arc<Table<WordChunk>>,
+    place: usize,
+    word: u32,
+) -> Result<(), AllocError>
+    requires place { place < 65536 }
+    ensures ok { OnOk result (flat_map (λ chunk. chunk.words) (table_chunks table.new.value) ≡ slice_set (flat_map (λ chunk. chunk.words) (table_chunks table.old.value)) place word) }
+    ensures err { OnErr result (table_chunks table.new.value ≡ table_chunks table.old.value) }
+{
+    if let Some(own) = Arc::get_mut(table) {
+        return put_in_chunk(alloc, &mut own.chunks[place / CHUNK], place % CHUNK, word);
+    }
+    let mut changed = table.share()?;
+    put_in_chunk(
+        alloc,
+        &mut changed.chunks[place / CHUNK],
+        place % CHUNK,
+        word,
+    )?;
+    *table = Arc::new(alloc, changed)?;
+    Ok(())
+}
+
+/// Words of 4 bytes in chunks of 1,024, and these in tables of 64, which versions of them share, as a `ChunkedArray` does.
 #[derive(Drop)]
 pub struct ChunkedWords {
     len: usize,
-    chunks: Vec<Arc<WordChunk>>,
+    tables: Vec<Arc<Table<WordChunk>>>,
 }
 
 impl Model for ChunkedWords {
     ghost use Rattle.std.specs.Prelude.{ℕ, ◌≤◌, ◌*◌, List, take, length, flat_map};
+    ghost use Rattle.chunked.specs.Tables.{chunks_of};
 
     ghost Value = { List ℕ };
 
-    ghost view = { λ a. take a.len (flat_map (λ chunk. chunk.value.words) a.chunks.items) };
+    ghost view = { λ a. take a.len (flat_map (λ chunk. chunk.words) (chunks_of a.tables.items)) };
 
-    ghost invariant = { λ a. a.len ≤ length a.chunks.items * 1024 };
+    ghost invariant = { λ a. a.len ≤ length a.tables.items * 65536 };
 }
 
 /// Chunked words as they are read again and again.
 #[derive(Drop)]
 pub struct WordTable<'a> {
     len: usize,
-    chunks: &'a [Arc<WordChunk>],
+    tables: &'a [Arc<Table<WordChunk>>],
 }
 
 impl<'a> Model for WordTable<'a> {
     ghost use Rattle.std.specs.Prelude.{ℕ, ◌≤◌, ◌*◌, List, take, length, flat_map};
+    ghost use Rattle.chunked.specs.Tables.{chunks_of};
 
     ghost Value = { List ℕ };
 
-    ghost view = { λ a. take a.len (flat_map (λ chunk. chunk.value.words) a.chunks.now) };
+    ghost view = { λ a. take a.len (flat_map (λ chunk. chunk.words) (chunks_of a.tables.now)) };
 
-    ghost invariant = { λ a. a.len ≤ length a.chunks.now * 1024 };
+    ghost invariant = { λ a. a.len ≤ length a.tables.now * 65536 };
 }
 
 impl WordTable<'_> {
@@ -91,7 +126,7 @@ impl WordTable<'_> {
         requires place { place < length self.now }
         ensures word { (d : ℕ) → slice_index_or self.now place d ≡ result }
     {
-        self.chunks[place / CHUNK].words[place % CHUNK]
+        chunk_at(self.tables, place / CHUNK).words[place % CHUNK]
     }
 }
 
@@ -102,8 +137,8 @@ impl ChunkedWords {
     pub fn with_capacity(alloc: Global, count: usize) -> Result<ChunkedWords, AllocError>
         ensures { IfOk result (λ words. words ≡ []) }
     {
-        let chunks = Vec::with_capacity(alloc, count.div_ceil(CHUNK))?;
-        Ok(ChunkedWords { len: 0, chunks })
+        let tables = Vec::with_capacity(alloc, count.div_ceil(TABLE))?;
+        Ok(ChunkedWords { len: 0, tables })
     }
 
     /// The number of words.
@@ -120,7 +155,7 @@ impl ChunkedWords {
     {
         WordTable {
             len: self.len,
-            chunks: &self.chunks,
+            tables: &self.tables,
         }
     }
 
@@ -130,29 +165,29 @@ impl ChunkedWords {
         requires place { place < length self.now }
         ensures word { (d : ℕ) → slice_index_or self.now place d ≡ result }
     {
-        self.chunks[place / CHUNK].words[place % CHUNK]
+        chunk_at(&self.tables, place / CHUNK).words[place % CHUNK]
     }
 
-    /// The same words once more: it costs a counter for each chunk.
+    /// The same words once more: it costs a counter for each table.
     pub fn share(&self) -> Result<ChunkedWords, AllocError>
         ensures { IfOk result (λ shared. shared ≡ self.now) }
     {
-        let chunks = self.chunks.clone()?;
+        let tables = share(&self.tables)?;
         Ok(ChunkedWords {
             len: self.len,
-            chunks,
+            tables,
         })
     }
 
-    /// Replaces the word at a place: in place, where nobody else has its chunk, else in a copy of the chunk. The one error is want of memory for that, and
-    /// the words are as they were.
+    /// Replaces the word at a place: in place, where nobody else has its chunk, else in a copy. The one error is want of memory for that, and the words are as
+    /// they were.
     pub fn set(&mut self, place: usize, word: u32) -> Result<(), AllocError>
         requires place { place < length self.old }
         ensures ok { OnOk result (self.new ≡ slice_set self.old place word) }
         ensures err { OnErr result (self.new ≡ self.old) }
     {
-        let alloc = *self.chunks.allocator();
-        put(alloc, &mut self.chunks[place / CHUNK], place % CHUNK, word)
+        let alloc = *self.tables.allocator();
+        put(alloc, &mut self.tables[place / TABLE], place % TABLE, word)
     }
 
     /// Adds the next words, 1 to 1,024, behind words that fill their chunks. The one error is want of memory, and the words are as they were.
@@ -163,10 +198,9 @@ impl ChunkedWords {
         ensures ok { OnOk result (self.new ≡ self.old ++ words.now) }
         ensures err { OnErr result (self.new ≡ self.old) }
     {
-        let alloc = *self.chunks.allocator();
+        let alloc = *self.tables.allocator();
         let chunk = Arc::new(alloc, beginning(words))?;
-        self.chunks.truncate(self.len / CHUNK);
-        self.chunks.push(chunk)?;
+        lay(alloc, &mut self.tables, self.len / CHUNK, chunk)?;
         self.len += words.len();
         Ok(())
     }

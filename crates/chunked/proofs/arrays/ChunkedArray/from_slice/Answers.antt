@@ -1,15 +1,31 @@
-use Rattle.std.proofs.Common.{◌≡◌, ◌∙◌, ◌+◌, ◌-◌, ◌*◌, length, take, drop, min, ap, arith}
-use Rattle.std.proofs.lemmas.List.{length_push}
-use Rattle.chunked.proofs.Items.{chunk_more}
-use Rattle.chunked.proofs.OfChunks.{items_of, full}
+use Rattle.std.proofs.Common.{◌≡◌, ◌∙◌, ◌<◌, ◌+◌, ◌*◌, ◌++◌, length, take, refl, sym, ap, ap₂, arith}
+use Rattle.std.proofs.Math.Seq.{take-add}
+use Rattle.std.proofs.lemmas.List.{length-take-le, take_all}
+use Rattle.chunked.proofs.OfTables.{part_next, part_size}
 use Rattle.chunked.proofs.arrays.ChunkedArray.from_slice.Goals as goal
+
+pub loop-k-init : goal.loop-k-init
+loop-k-init g c = refl
+
+pub append-requires-clause-whole : goal.append-requires-clause-whole
+append-requires-clause-whole g c =
+    let within : c.loop-k.k * 1024 < length c.args.items.now = omega (arith, c.loop-k-test.true, c.div_ceil-k-end.ensures) in
+    let size : length c.loop-k.array ≡ c.loop-k.k * 1024 = ap length c.loop-k.invariant ∙ length-take-le (c.loop-k.k * 1024) c.args.items.now (omega (arith, within)) in
+    omega (arith, size)
+
+pub append-requires-clause-room : goal.append-requires-clause-room
+append-requires-clause-room g c =
+    let within : c.loop-k.k * 1024 < length c.args.items.now = omega (arith, c.loop-k-test.true, c.div_ceil-k-end.ensures) in
+    let size : length c.loop-k.array ≡ c.loop-k.k * 1024 = ap length c.loop-k.invariant ∙ length-take-le (c.loop-k.k * 1024) c.args.items.now (omega (arith, within)) in
+    omega (arith, size, part_size c.args.items.now c.loop-k.k c.min.result within c.min.ensures, c.min.ensures, within)
 
 pub loop-k-preserved : goal.loop-k-preserved
 loop-k-preserved g c =
-    let from = c.loop-k.k * 1024 in
-    let many : c.loop-k.k * 1024 + c.min.result - c.loop-k.k * 1024 ≡ min 1024 (length c.args.items.now - c.loop-k.k * 1024) = omega (arith, c.min.ensures) in
-    rw c.in_ok-push.ensures.items
-    (record {
-      count = omega (arith, length_push c.loop-k.chunks.items c.in_ok-new.field-0, c.loop-k.invariant.count);
-      copied = chunk_more items_of full c.loop-k.chunks.items c.in_ok-new.field-0 c.args.items.now (take (c.loop-k.k * 1024 + c.min.result - c.loop-k.k * 1024) (drop (c.loop-k.k * 1024) c.args.items.now)) c.loop-k.k c.loop-k.invariant.count (omega (arith, c.div_ceil-chunk_count.ensures, c.loop-k-test.true)) c.loop-k.invariant.copied (ap (λ m. take m (drop (c.loop-k.k * 1024) c.args.items.now)) many) (ap (λ v. take (length (take (c.loop-k.k * 1024 + c.min.result - c.loop-k.k * 1024) (drop (c.loop-k.k * 1024) c.args.items.now))) v.items.items) c.in_ok-new.ensures.ok ∙ c.in_ok-beginning.ensures);
-    })
+    let within : c.loop-k.k * 1024 < length c.args.items.now = omega (arith, c.loop-k-test.true, c.div_ceil-k-end.ensures) in
+    let e : c.loop-k.k * 1024 + 1024 ≡ (c.loop-k.k + 1) * 1024 = omega arith in
+    c.in_ok-append.ensures.ok
+    ∙ (ap₂ (λ xs ys. xs ++ ys) c.loop-k.invariant (part_next c.args.items.now c.loop-k.k c.min.result within c.min.ensures)
+    ∙ (sym (take-add (c.loop-k.k * 1024) 1024 c.args.items.now) ∙ ap (λ n. take n c.args.items.now) e))
+
+pub returns : goal.returns
+returns g c = c.loop-k.invariant ∙ take_all (c.loop-k.k * 1024) c.args.items.now (omega (arith, c.loop-k-test.false, c.div_ceil-k-end.ensures))

@@ -1,15 +1,12 @@
-use Rattle.std.proofs.Common.{◌≡◌, ◌∙◌, ◌%◌, length, get_or, sym, ap, arith, Global}
+use Rattle.std.proofs.Common.{◌≡◌, ◌∙◌, ◌%◌, length, get_or, sym, ap, arith}
 use Rattle.std.proofs.lemmas.List.{get_or_default}
-use Rattle.std.specs.declared.sync.Arc.{Arc}
-use Rattle.chunked.specs.declared.words.WordChunk.{WordChunk}
-use Rattle.chunked.proofs.Items.{item_at, length-items}
-use Rattle.chunked.proofs.OfChunks.{words_of, full_words}
+use Rattle.chunked.proofs.OfTables.{words_of, full_words, get_item, long}
 use Rattle.chunked.proofs.words.WordTable.get.Goals as goal
 
 pub returns : goal.returns
 returns c =
-    let long : length c.args.self.now ≡ c.self.inside.len = ap length (sym c.self.view_is) ∙ length-items words_of full_words c.self.inside.chunks.now c.self.inside.len c.self.invariant in
-    let chunk = c.index-self-place.result in
-    let word = get_or c.deref.result.now.words (c.args.place % 1024) 0 in
-    let here : word ≡ get_or (words_of chunk) (c.args.place % 1024) word = ap (λ (b : WordChunk). get_or b.words (c.args.place % 1024) 0) (c.deref.ensures ∙ ap (λ (a : Arc WordChunk Global). a.value) (sym c.index-self-place.is)) ∙ get_or_default (words_of chunk) (c.args.place % 1024) 0 word (omega (arith, full_words chunk)) in
-    rw (← c.self.view_is) (record { word = item_at words_of full_words c.self.inside.chunks.now c.self.inside.len c.args.place chunk word (omega (arith, c.requires.place, long)) c.self.invariant c.index-self-place.is here })
+    let size : length c.args.self.now ≡ c.self.inside.len = ap length (sym c.self.view_is) ∙ long words_of full_words c.self.inside.tables.now c.self.inside.len c.self.invariant in
+    let chunk = c.chunk_at.result.now in
+    let word = get_or chunk.words (c.args.place % 1024) 0 in
+    let here : word ≡ get_or chunk.words (c.args.place % 1024) word = get_or_default (words_of chunk) (c.args.place % 1024) 0 word (omega (arith, full_words chunk)) in
+    rw (← c.self.view_is) (record { word = get_item words_of full_words c.self.inside.tables.now c.self.inside.len c.self.invariant c.args.place chunk word (omega (arith, c.requires.place, size)) c.chunk_at.ensures here })

@@ -204,7 +204,7 @@ impl<N: Naming> Caller<N> {
         told
     }
 
-    /// Looks by its own reader until this version is shown, 10,000 times at most.
+    /// Looks by its own reader until this version is shown, and once more.
     fn watch<S: Served<Naming = N>>(
         &mut self,
         rt: &S::Runtime,
@@ -214,17 +214,29 @@ impl<N: Naming> Caller<N> {
         out: &mut Vec<u8>,
     ) -> Result<(), Refusal> {
         let mut reader = self.reader(desk)?;
-        for _ in 0..MOST_TURNS {
-            reader.look()?;
-            if reader.pinned().version() >= version {
-                break;
-            }
-            thread::sleep(rt, Duration::from_millis(1));
-        }
-        let told = look(rt, alloc, &mut reader, out);
+        let told = match await_version(rt, &mut reader, version) {
+            Ok(()) => look(rt, alloc, &mut reader, out),
+            Err(refusal) => Err(refusal),
+        };
         self.reader = Some(reader);
         told
     }
+}
+
+/// Looks by a reader until this version is shown, 10,000 times at most.
+fn await_version<N: Naming, R: Clock>(
+    rt: &R,
+    reader: &mut Reader<N>,
+    version: u64,
+) -> Result<(), Refusal> {
+    for _ in 0..MOST_TURNS {
+        reader.look()?;
+        if reader.pinned().version() >= version {
+            break;
+        }
+        thread::sleep(rt, Duration::from_millis(1));
+    }
+    Ok(())
 }
 
 /// A reader pins, and is asked from node 1 to node 6 and back. Told are the version and the distance; there is no way back.
@@ -259,7 +271,7 @@ fn decline<S: Served>(desk: &Handle<S>, command: Command) -> Result<u64, Refusal
 /// The width of the buckets of the view at which a new reader looks.
 fn width<S: Served>(desk: &Handle<S>) -> Result<u64, Refusal> {
     let mut reader = desk.reader()?;
-    Ok(u64::from(reader.pin()?.width()))
+    Ok(u64::from(reader.pinned().width()))
 }
 
 /// Adds a call's answer, a number or a refusal.

@@ -85,3 +85,66 @@ fn appended(alloc: Global) -> Result<(usize, u32, u32, u32), AllocError> {
 fn more_words_behind_whole_chunks(rt: HostRuntime) {
     assert!(rt; appended(rt.alloc()) == Ok((1026, 7, 8, 6)));
 }
+
+/// The items on both sides of the end of a table of chunks, one more than fill it, and those of a version in which two others stand there.
+fn beyond_a_table(alloc: Global) -> Result<[u32; 4], AllocError> {
+    let mut array = ChunkedArray::from_slice(alloc, &numbers(alloc, 65536)?)?;
+    if array.len() != 65536 {
+        return Ok([0; 4]);
+    }
+    array.push(8)?;
+    let mut version = array.share()?;
+    if array.len() != 65537 || version.len() != 65537 {
+        return Ok([0; 4]);
+    }
+    version.set(65535, 5)?;
+    version.set(65536, 6)?;
+    Ok([
+        *array.get(65535),
+        *array.get(65536),
+        *version.get(65535),
+        *version.get(65536),
+    ])
+}
+
+#[test]
+fn items_beyond_a_table(rt: HostRuntime) {
+    assert!(rt; beyond_a_table(rt.alloc()) == Ok([65535, 8, 5, 6]));
+}
+
+/// Adds so many whole chunks of sevens.
+fn fill(words: &mut ChunkedWords, chunks: usize) -> Result<(), AllocError> {
+    for _ in 0..chunks {
+        if words.len() % 1024 == 0 && words.len() < 65536 {
+            words.append(&[7; 1024])?;
+        }
+    }
+    Ok(())
+}
+
+/// The same of words.
+fn words_beyond_a_table(alloc: Global) -> Result<[u32; 4], AllocError> {
+    let mut words = ChunkedWords::with_capacity(alloc, 65538)?;
+    fill(&mut words, 64)?;
+    if words.len() != 65536 {
+        return Ok([0; 4]);
+    }
+    words.append(&[5, 6])?;
+    let mut version = words.share()?;
+    if words.len() != 65538 || version.len() != 65538 {
+        return Ok([0; 4]);
+    }
+    version.set(65535, 8)?;
+    version.set(65537, 9)?;
+    Ok([
+        words.get(65535),
+        words.table().get(65537),
+        version.get(65535),
+        version.get(65537),
+    ])
+}
+
+#[test]
+fn words_beyond_a_table_of_chunks(rt: HostRuntime) {
+    assert!(rt; words_beyond_a_table(rt.alloc()) == Ok([7, 6, 8, 9]));
+}

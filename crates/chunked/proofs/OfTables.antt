@@ -121,6 +121,13 @@ module _ {T C : Type 0} (part : C → List T) (size : (chunk : C) → length (pa
   pub lay_items : (more : List (Arc (Table C) Global)) (chunk : C) (items : List T) → len % 1024 ≡ 0 → length items ≤ 1024 → take (len / 1024 + 1) (chunks_of more) ≡ take (len / 1024) (chunks_of tables) ++ chunk ∷ [] → take (length items) (part chunk) ≡ items → take (len + length items) (flat_map part (chunks_of more)) ≡ take len (flat_map part (chunks_of tables)) ++ items
   lay_items more chunk items whole few laid begins = append_items part 1024 size (chunks_of tables) (chunks_of more) (len / 1024) len chunk items (omega (arith, whole)) (omega (arith, fits, count tables)) few laid begins
 
+-- ---- lists
+pub list_long : {C : Type 0} (tables : List (Arc (Table C) Global)) (len : ℕ) → len ≤ length tables * 64 → length (take len (chunks_of tables)) ≡ len
+list_long tables len fits = length-items row_of 64 full_row tables len fits
+
+pub set_list : {C : Type 0} (tables : List (Arc (Table C) Global)) (len place : ℕ) (old new : Arc (Table C) Global) (item : C) → place < len → len ≤ length tables * 64 → old ≡ get_or tables (place / 64) old → row_of new ≡ set (row_of old) (place % 64) item → take len (chunks_of (set tables (place / 64) new)) ≡ set (take len (chunks_of tables)) place item
+set_list tables len place old new item h fits is put = set_items row_of 64 full_row tables len place (place / 64) (place % 64) old new item h (omega arith) (omega (arith, h, fits)) (omega arith) is put
+
 -- the part of a list that its k-th chunk has
 pub part_next : {T : Type 0} (items : List T) (k m : ℕ) → k * 1024 < length items → m ≡ min 1024 (length items - k * 1024) → take (k * 1024 + m - k * 1024) (drop (k * 1024) items) ≡ take 1024 (drop (k * 1024) items)
 part_next items k m h is =

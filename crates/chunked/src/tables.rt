@@ -52,7 +52,7 @@ pub(crate) fn chunk_at<C: Drop>(tables: &[Arc<Table<C>>], k: usize) -> &C
 }
 
 /// Replaces a chunk of a table: in place, where nobody else has the table, else in a copy of it.
-fn replace<C: Drop>(
+pub(crate) fn replace<C: Drop>(
     alloc: Global,
     table: &mut Arc<Table<C>>,
     k: usize,

@@ -1,12 +1,15 @@
 -- Nodes that are remembered, and their flags.
-use Rattle.std.proofs.Common.{◌≡◌, ◌⊎◌, ◌∙◌, ℕ, zero, suc, ◌<◌, ◌≤◌, Bool, true, false, ◌||◌, List, [], ◌∷◌, ◌++◌, length, set, replicate, Contains, cond, ap₂, refl, inl, inr, ap, sym, subst, arith, eqb, ⊎_elim}
+use Rattle.std.proofs.Common.{◌≡◌, ◌⊎◌, ◌∙◌, ℕ, zero, suc, ◌/◌, ◌%◌, ◌*◌, ◌<◌, ◌≤◌, ◌≢◌, Bool, true, false, ◌||◌, List, [], ◌∷◌, ◌++◌, length, get_or, set, map, Contains, cond, ap₂, refl, inl, inr, ap, sym, subst, arith, eqb, ⊎_elim}
 use Rattle.std.specs.List.{list_any, IsDistinct, AllByRecursion}
 use Rattle.std.proofs.lemmas.Bool.{cases_eq, cases_lt, eq-eqb, ne_eqb, eqb-true}
-use Rattle.std.proofs.lemmas.List.{get_or-set_same, get_or-set_other, get_or-replicate, get_or_past, length-replicate}
+use Rattle.std.proofs.lemmas.List.{get_or-map, get_or-set_same, get_or-set_other, get_or_past, length-map, map-set}
 use Rattle.std.proofs.lemmas.List.Elements.{Contains-append_left, Contains-push, Contains-append_cases, Contains-push_cases}
 use Rattle.std.proofs.lemmas.Map.Keys.{IsDistinct-push}
+use Rattle.std.specs.Int.{bit_at}
 use Rattle.std.proofs.lemmas.Cmp.{nat_eq_equiv}
+use Rattle.std.proofs.lemmas.Nat.Bits.{bit_at-zero}
 use Rattle.roadnet.specs.Members.{is_member}
+use Rattle.frontier.specs.Flags.{flag_at}
 use Rattle.frontier.specs.Remembered.{Memory, AreFlags, remember, remember_all}
 use Rattle.frontier.proofs.Members.{Contains-tail, Contains-nil}
 
@@ -78,12 +81,109 @@ remember_all-of nodes (x ∷ more) u h =
     (remember_all-of (remember nodes x) more u h)
 
 -- ---- flags
-pub AreFlags-none : (limit : ℕ) (flags : List Bool) (nodes : List ℕ) → flags ≡ replicate limit false → nodes ≡ [] → AreFlags flags nodes
+pub flags-none : (pages : List (List ℕ)) → ((k : ℕ) → get_or pages k [] ≡ []) → (u : ℕ) → flag_at pages u ≡ false
+flags-none pages none u =
+    let words : get_or (get_or pages (u / 32768) []) (u % 32768 / 64) 0 ≡ 0 = ap (λ (ws : List ℕ). get_or ws (u % 32768 / 64) 0) (none (u / 32768)) ∙ get_or_past [] (u % 32768 / 64) 0 (omega arith) in
+    ap (λ w. eqb (bit_at w (u % 64)) 1) words ∙ ap (λ b. eqb b 1) (bit_at-zero (u % 64))
+
+-- one more that is the default
+pub default_more : {X : Type 0} (xs : List X) (d : X) (k : ℕ) → get_or (xs ++ d ∷ []) k d ≡ get_or xs k d
+default_more [] d zero = refl
+default_more [] d (suc k) = refl
+default_more (x ∷ xs) d zero = refl
+default_more (x ∷ xs) d (suc k) = default_more xs d k
+
+-- a page with words that are the same, but for words of 0 at its end
+module _ (pages : List (List ℕ)) (page : ℕ) (words : List ℕ) (within : page < length pages) where
+  pub words-same : ((k : ℕ) → get_or words k 0 ≡ get_or (get_or pages page []) k 0) → (u : ℕ) → flag_at (set pages page words) u ≡ flag_at pages u
+  words-same same u =
+      ⊎_elim
+      (λ (e : u / 32768 ≡ page).
+      let at : get_or (set pages page words) (u / 32768) [] ≡ words = ap (λ p. get_or (set pages page words) p []) e ∙ get_or-set_same pages page words [] within in
+      ap (λ (ws : List ℕ). eqb (bit_at (get_or ws (u % 32768 / 64) 0) (u % 64)) 1) at
+      ∙ (ap (λ w. eqb (bit_at w (u % 64)) 1) (same (u % 32768 / 64)) ∙ ap (λ p. eqb (bit_at (get_or (get_or pages p []) (u % 32768 / 64) 0) (u % 64)) 1) (sym e)))
+      (λ (ne : u / 32768 ≡ page → ⊥). ap (λ (ws : List ℕ). eqb (bit_at (get_or ws (u % 32768 / 64) 0) (u % 64)) 1) (get_or-set_other pages page (u / 32768) words [] ne))
+      (cases_eq (u / 32768) page)
+
+-- a word with the flag of a number put up or down, seen at a number
+module _ (pages : List (List ℕ)) (number new : ℕ) (within : number < length pages * 32768) (room : number % 32768 / 64 < length (get_or pages (number / 32768) [])) where
+  abbrev own : List ℕ
+  own = get_or pages (number / 32768) []
+
+  abbrev changed : List (List ℕ)
+  changed = set pages (number / 32768) (set own (number % 32768 / 64) new)
+
+  own_page : get_or changed (number / 32768) [] ≡ set own (number % 32768 / 64) new
+  own_page = get_or-set_same pages (number / 32768) (set own (number % 32768 / 64) new) [] (omega (arith, within))
+
+  own_word : get_or (get_or changed (number / 32768) []) (number % 32768 / 64) 0 ≡ new
+  own_word = ap (λ (ws : List ℕ). get_or ws (number % 32768 / 64) 0) own_page ∙ get_or-set_same own (number % 32768 / 64) new 0 room
+
+  pub set-same : flag_at changed number ≡ eqb (bit_at new (number % 64)) 1
+  set-same = ap (λ w. eqb (bit_at w (number % 64)) 1) own_word
+
+  module _ (u : ℕ) (ne : u ≢ number) where
+    same_word : u / 64 ≡ number / 64 → ((i : ℕ) → i < 64 → i ≢ number % 64 → bit_at new i ≡ bit_at (get_or own (number % 32768 / 64) 0) i) → flag_at changed u ≡ flag_at pages u
+    same_word e others =
+        let page : u / 32768 ≡ number / 32768 = omega (arith, e) in
+        let place : u % 32768 / 64 ≡ number % 32768 / 64 = omega (arith, e) in
+        let bit : bit_at new (u % 64) ≡ bit_at (get_or own (number % 32768 / 64) 0) (u % 64) = others (u % 64) (omega arith) (λ same. ne (omega (arith, same, e))) in
+        rw (page, place) (ap (λ w. eqb (bit_at w (u % 64)) 1) own_word ∙ ap (λ b. eqb b 1) bit)
+
+    other_word : (u / 64 ≡ number / 64 → ⊥) → flag_at changed u ≡ flag_at pages u
+    other_word apart =
+        ⊎_elim
+        (λ (e : u / 32768 ≡ number / 32768).
+        rw e (ap (λ (ws : List ℕ). eqb (bit_at (get_or ws (u % 32768 / 64) 0) (u % 64)) 1) own_page ∙ ap (λ w. eqb (bit_at w (u % 64)) 1) (get_or-set_other own (number % 32768 / 64) (u % 32768 / 64) new 0 (λ same. apart (omega (arith, same, e))))))
+        (λ (ne' : u / 32768 ≡ number / 32768 → ⊥). ap (λ (ws : List ℕ). eqb (bit_at (get_or ws (u % 32768 / 64) 0) (u % 64)) 1) (get_or-set_other pages (number / 32768) (u / 32768) (set own (number % 32768 / 64) new) [] ne'))
+        (cases_eq (u / 32768) (number / 32768))
+
+  pub set-other : ((i : ℕ) → i < 64 → i ≢ number % 64 → bit_at new i ≡ bit_at (get_or own (number % 32768 / 64) 0) i) → (u : ℕ) → u ≢ number → flag_at changed u ≡ flag_at pages u
+  set-other others u ne =
+      ⊎_elim
+      (λ (e : u / 64 ≡ number / 64). same_word u ne e others)
+      (λ (apart : u / 64 ≡ number / 64 → ⊥). other_word u ne apart)
+      (cases_eq (u / 64) (number / 64))
+
+-- a page that is changed
+module _ {X : Type 0} (items : X → List ℕ) (pages : List X) (page : ℕ) (within : page < length pages) (old : X) (is : old ≡ get_or pages page old) where
+  pub page-read : items old ≡ get_or (map items pages) page []
+  page-read = ap items is ∙ sym (get_or-map items pages page old [] within)
+
+  pub page-grown : (new : X) → ((k : ℕ) → get_or (items new) k 0 ≡ get_or (items old) k 0) → (u : ℕ) → flag_at (map items (set pages page new)) u ≡ flag_at (map items pages) u
+  page-grown new same u =
+      ap (λ ps. flag_at ps u) (map-set items pages page new)
+      ∙ words-same (map items pages) page (items new) (omega (arith, within, length-map pages items)) (λ k. same k ∙ ap (λ (ws : List ℕ). get_or ws k 0) page-read) u
+
+  pub page-new : (new : X) → get_or (map items (set pages page new)) page [] ≡ items new
+  page-new new = ap (λ ps. get_or ps page []) (map-set items pages page new) ∙ get_or-set_same (map items pages) page (items new) [] (omega (arith, within, length-map pages items))
+
+  pub page-set : (changed : X) (place word : ℕ) → items changed ≡ set (items old) place word → map items (set pages page changed) ≡ set (map items pages) page (set (get_or (map items pages) page []) place word)
+  page-set changed place word e = map-set items pages page changed ∙ ap (set (map items pages) page) (e ∙ ap (λ (ws : List ℕ). set ws place word) page-read)
+
+-- a flag that is up has a word
+pub up_word : (pages : List (List ℕ)) (u : ℕ) → flag_at pages u ≡ true → u % 32768 / 64 < length (get_or pages (u / 32768) [])
+up_word pages u up =
+    ⊎_elim
+    (λ (lt : u % 32768 / 64 < length (get_or pages (u / 32768) [])). lt)
+    (λ (past : length (get_or pages (u / 32768) []) ≤ u % 32768 / 64).
+    let down : flag_at pages u ≡ false = ap (λ w. eqb (bit_at w (u % 64)) 1) (get_or_past (get_or pages (u / 32768) []) (u % 32768 / 64) 0 past) ∙ ap (λ b. eqb b 1) (bit_at-zero (u % 64)) in
+    let no : false ≡ true = sym down ∙ up in
+    absurd (let absurdity : ⊥ = cc in absurdity))
+    (cases_lt (u % 32768 / 64) (length (get_or pages (u / 32768) [])))
+
+pub up_page : (pages : List (List ℕ)) (u : ℕ) → flag_at pages u ≡ true → u < length pages * 32768
+up_page pages u up =
+    ⊎_elim
+    (λ (lt : u / 32768 < length pages). omega (arith, lt))
+    (λ (past : length pages ≤ u / 32768).
+    let none : length (get_or pages (u / 32768) []) ≡ 0 = ap length (get_or_past pages (u / 32768) [] past) in
+    absurd (omega (arith, none, up_word pages u up)))
+    (cases_lt (u / 32768) (length pages))
+
+pub AreFlags-none : (pages : List (List ℕ)) (nodes : List ℕ) → ((u : ℕ) → flag_at pages u ≡ false) → nodes ≡ [] → AreFlags pages nodes
 unfolding IsDistinct
-AreFlags-none limit flags nodes e e' = rw (e, e') (record {
-  flag = λ u. ⊎_elim (λ (lt : u < limit). get_or-replicate limit u false false lt) (λ (past : limit ≤ u). get_or_past (replicate limit false) u false (omega (arith, length-replicate {A = Bool} limit false))) (cases_lt u limit);
-  once = tt;
-})
+AreFlags-none pages nodes down e = rw e (record { flag = down; once = tt })
 
 eqb_flips : (x y : ℕ) (b : Bool) → eqb x y ≡ b → eqb y x ≡ b
 eqb_flips x y true e = eq-eqb y x (sym (eqb-true x y e))
@@ -93,13 +193,13 @@ is_member-flips : (node : ℕ) (nodes : List ℕ) → list_any (λ x. eqb node x
 is_member-flips node [] = refl
 is_member-flips node (x ∷ nodes) = ap₂ (λ (a b : Bool). a || b) (eqb_flips x node (eqb x node) refl) (is_member-flips node nodes)
 
-pub AreFlags-push : (flags : List Bool) (nodes : List ℕ) (node : ℕ) → node < length flags → is_member node nodes ≡ false → AreFlags flags nodes → AreFlags (set flags node true) (nodes ++ node ∷ [])
-AreFlags-push flags nodes node within new old = record {
+pub AreFlags-push : (old new : List (List ℕ)) (nodes : List ℕ) (node : ℕ) → flag_at new node ≡ true → ((u : ℕ) → u ≢ node → flag_at new u ≡ flag_at old u) → is_member node nodes ≡ false → AreFlags old nodes → AreFlags new (nodes ++ node ∷ [])
+AreFlags-push old new nodes node up others out before = record {
   flag = λ u. ⊎_elim
-      (λ (e : u ≡ node). rw e (get_or-set_same flags node true false within ∙ sym (is_member-push node node nodes ∙ (ap (λ (b : Bool). is_member node nodes || b) (eq-eqb node node refl) ∙ or_true (is_member node nodes)))))
-      (λ (ne : u ≡ node → ⊥). get_or-set_other flags node u true false ne ∙ (old.flag u ∙ sym (is_member-push u node nodes ∙ (ap (λ (b : Bool). is_member u nodes || b) (ne_eqb node u (λ e. ne (sym e))) ∙ or_false (is_member u nodes)))))
+      (λ (e : u ≡ node). rw e (up ∙ sym (is_member-push node node nodes ∙ (ap (λ (b : Bool). is_member node nodes || b) (eq-eqb node node refl) ∙ or_true (is_member node nodes)))))
+      (λ (ne : u ≡ node → ⊥). others u ne ∙ (before.flag u ∙ sym (is_member-push u node nodes ∙ (ap (λ (b : Bool). is_member u nodes || b) (ne_eqb node u (λ e. ne (sym e))) ∙ or_false (is_member u nodes)))))
       (cases_eq u node);
-  once = IsDistinct-push nat_eq_equiv nodes node old.once (is_member-flips node nodes ∙ new);
+  once = IsDistinct-push nat_eq_equiv nodes node before.once (is_member-flips node nodes ∙ out);
 }
 
 -- ---- forgetting the last node
@@ -119,24 +219,17 @@ distinct_front (x ∷ xs) y h =
     let rest = distinct_front xs y h.1 in
     ((here.0, rest.0), or_both (eqb x y) (is_member y xs) here.1 rest.1)
 
--- a node that is remembered is below the limit
-pub last_within : (flags : List Bool) (nodes : List ℕ) (node : ℕ) → AreFlags flags (nodes ++ node ∷ []) → node < length flags
-last_within flags nodes node old =
-    ⊎_elim
-    (λ (lt : node < length flags). lt)
-    (λ (past : length flags ≤ node).
-    let there : is_member node (nodes ++ node ∷ []) ≡ true = is_member-push node node nodes ∙ (ap (λ (b : Bool). is_member node nodes || b) (eq-eqb node node refl) ∙ or_true (is_member node nodes)) in
-    let no : false ≡ true = sym (get_or_past flags node false past) ∙ (old.flag node ∙ there) in
-    absurd (let absurdity : ⊥ = cc in absurdity))
-    (cases_lt node (length flags))
+-- the flag of the last node is up
+pub last_up : (pages : List (List ℕ)) (nodes : List ℕ) (node : ℕ) → AreFlags pages (nodes ++ node ∷ []) → flag_at pages node ≡ true
+last_up pages nodes node old = old.flag node ∙ (is_member-push node node nodes ∙ (ap (λ (b : Bool). is_member node nodes || b) (eq-eqb node node refl) ∙ or_true (is_member node nodes)))
 
-pub AreFlags-pop : (flags : List Bool) (nodes : List ℕ) (node : ℕ) → AreFlags flags (nodes ++ node ∷ []) → AreFlags (set flags node false) nodes
-AreFlags-pop flags nodes node old =
-    let front : IsDistinct eqb nodes × (is_member node nodes ≡ false) = distinct_front nodes node old.once in
+pub AreFlags-pop : (old new : List (List ℕ)) (nodes : List ℕ) (node : ℕ) → flag_at new node ≡ false → ((u : ℕ) → u ≢ node → flag_at new u ≡ flag_at old u) → AreFlags old (nodes ++ node ∷ []) → AreFlags new nodes
+AreFlags-pop old new nodes node down others before =
+    let front : IsDistinct eqb nodes × (is_member node nodes ≡ false) = distinct_front nodes node before.once in
     record {
       flag = λ u. ⊎_elim
-          (λ (e : u ≡ node). rw e (get_or-set_same flags node false false (last_within flags nodes node old) ∙ sym front.1))
-          (λ (ne : u ≡ node → ⊥). get_or-set_other flags node u false false ne ∙ (old.flag u ∙ (is_member-push u node nodes ∙ (ap (λ (b : Bool). is_member u nodes || b) (ne_eqb node u (λ e. ne (sym e))) ∙ or_false (is_member u nodes)))))
+          (λ (e : u ≡ node). rw e (down ∙ sym front.1))
+          (λ (ne : u ≡ node → ⊥). others u ne ∙ (before.flag u ∙ (is_member-push u node nodes ∙ (ap (λ (b : Bool). is_member u nodes || b) (ne_eqb node u (λ e. ne (sym e))) ∙ or_false (is_member u nodes)))))
           (cases_eq u node);
       once = front.0;
     }

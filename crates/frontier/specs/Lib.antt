@@ -1,4 +1,5 @@
 pub mod Entries
+pub mod Flags
 pub mod Frontier
 pub mod Live
 pub mod Remembered

@@ -1,7 +1,8 @@
 -- Nodes that are remembered, each once, in the order in which they were first added.
-use Rattle.std.specs.Prelude.{◌≡◌, ℕ, ◌==◌, Bool, false, List, ◌∷◌, [], ◌++◌, if◌then◌else◌, fold, slice_index_or}
+use Rattle.std.specs.Prelude.{◌≡◌, ℕ, ◌==◌, List, ◌∷◌, [], ◌++◌, if◌then◌else◌, fold}
 use Rattle.std.specs.List.{IsDistinct}
 use Rattle.roadnet.specs.Members.{is_member}
+use Rattle.frontier.specs.Flags.{flag_at}
 
 -- numbers below the limit can be remembered
 pub record Memory : Type 0 where
@@ -15,7 +16,7 @@ remember nodes node = if is_member node nodes then nodes else nodes ++ node ∷ 
 abbrev pub remember_all : List ℕ → List ℕ → List ℕ
 remember_all nodes more = fold remember nodes more
 
--- each flag says whether the number is among the nodes; each node is below the limit and there once
-pub record AreFlags (flags : List Bool) (nodes : List ℕ) : Type 0 where
-  pub flag : (u : ℕ) → slice_index_or flags u false ≡ is_member u nodes
+-- each flag says whether the number is among the nodes, and each node is there once
+pub record AreFlags (pages : List (List ℕ)) (nodes : List ℕ) : Type 0 where
+  pub flag : (u : ℕ) → flag_at pages u ≡ is_member u nodes
   pub once : IsDistinct (λ a b. a == b) nodes

@@ -6,6 +6,7 @@ mod frontier;
 mod lazy;
 mod lower;
 mod mended;
+mod paged;
 mod queued;
 mod remembered;
 mod values;

@@ -1,23 +1,25 @@
+use crate::paged::PagedFlags;
 use roadnet::OutOfMemory;
 use std::alloc::Global;
 use std::marker::Model;
 
-/// Nodes, each once, in the order in which they were first added. It takes 1 byte for each number below its limit and 4 a node.
+/// Nodes, each once, in the order in which they were first added. It takes 4 bytes a node, at most a bit for each number below its limit, in pages of 32,768
+/// numbers that are made when one of theirs is added, and 24 bytes a page.
 #[derive(Drop)]
 pub struct Remembered {
-    flags: Vec<bool>,
+    flags: PagedFlags,
     nodes: Vec<u32>,
 }
 
 impl Model for Remembered {
-    ghost use Rattle.std.specs.Prelude.{length};
+    ghost use Rattle.std.specs.Prelude.{map};
     ghost use Rattle.frontier.specs.Remembered.{Memory, AreFlags};
 
     ghost Value = { Memory };
 
-    ghost view = { λ r. record { limit = length r.flags.items; nodes = r.nodes.items } };
+    ghost view = { λ r. record { limit = r.flags.limit; nodes = r.nodes.items } };
 
-    ghost invariant = { λ r. AreFlags r.flags.items r.nodes.items };
+    ghost invariant = { λ r. AreFlags (map (λ page. page.items) r.flags.pages.items) r.nodes.items };
 }
 
 impl Remembered {
@@ -30,7 +32,7 @@ impl Remembered {
         ensures none { IfOk result (λ remembered. remembered ≡ record { limit = limit; nodes = [] }) }
     {
         Ok(Remembered {
-            flags: vec![in alloc; false; limit]?,
+            flags: PagedFlags::new(alloc, limit)?,
             nodes: Vec::new(alloc),
         })
     }
@@ -39,7 +41,7 @@ impl Remembered {
     pub fn is_fresh(&self, limit: usize) -> bool
         ensures { IsTrue result ↔ (self.now ≡ record { limit = limit; nodes = [] }) }
     {
-        self.nodes.is_empty() && self.flags.len() == limit
+        self.nodes.is_empty() && self.flags.limit == limit
     }
 
     /// The nodes in the order in which they were first added.
@@ -57,13 +59,16 @@ impl Remembered {
         ensures added { OnOk result (self.new.nodes ≡ remember self.old.nodes node) }
         ensures limit { self.new.limit ≡ self.old.limit }
     {
-        if self.flags[node as usize] {
+        if self.flags.is_up(node as usize) {
             return Ok(());
         }
+        let Ok(()) = self.flags.make_room(node as usize) else {
+            return Err(OutOfMemory);
+        };
         let Ok(()) = self.nodes.push(node) else {
             return Err(OutOfMemory);
         };
-        self.flags[node as usize] = true;
+        self.flags.raise(node as usize);
         Ok(())
     }
 
@@ -89,7 +94,7 @@ impl Remembered {
         let Some(node) = self.nodes.pop() else {
             return false;
         };
-        self.flags[node as usize] = false;
+        self.flags.lower(node as usize);
         true
     }
 

@@ -1,7 +1,6 @@
 -- More legs behind those of a node.
 use Rattle.std.proofs.Common.{◌≡◌, ◌⊎◌, ◌∙◌, ℕ, suc, ◌+◌, ◌*◌, ◌/◌, ◌%◌, ◌<◌, ◌≤◌, Bool, true, false, ◌&&◌, not, List, [], ◌∷◌, ◌++◌, length, get_or, set, take, map, refl, ap, ap₂, inl, inr, sym, subst, arith, eqb, leb, max, append_assoc, append-nil, Contains, Global, ⊎_elim}
-use Rattle.std.specs.List.{filter, flat_map, All, AllZip}
-use Rattle.std.specs.declared.sync.Arc.{Arc}
+use Rattle.std.specs.List.{filter, flat_map, All}
 use Rattle.std.proofs.lemmas.Bool.{cases_lt, cases_eq, and_right, and_left, ne_eqb, eq-eqb, le-leb}
 use Rattle.std.proofs.lemmas.List.{get_or_past, get_or-map, get_or-set_other, get_or-set_same, length-map, length-set, map-append, map-set, take_more}
 use Rattle.std.proofs.lemmas.List.Elements.{All-append, All-cons, All-contains, All-nil, Contains-append_cases, Contains-append_right, filter-append}
@@ -96,7 +95,7 @@ pub HasMore-block : (arcs : List RoadArc) (arc : RoadArc) (delta : ℕ) (old new
 HasMore-block arcs arc delta old new was is part u low =
     is part u low ∙ (legs_in-append arcs (arc ∷ []) delta part u ∙ ap (λ (l : List Leg). l ++ legs_in (arc ∷ []) delta part u) (sym (was part u low)))
 
-module _ (delta : ℕ) (blocks : List (Arc Block Global)) (place : ℕ) (old new : Arc Block Global) (arc : RoadArc) (h : place < length blocks) (is : old ≡ get_or blocks place old) (at : place ≡ arc.tail / 1024) (light : AreLight delta (flat_map parts_in blocks)) where
+module _ (delta : ℕ) (blocks : List Block) (place : ℕ) (old new : Block) (arc : RoadArc) (h : place < length blocks) (is : old ≡ get_or blocks place old) (at : place ≡ arc.tail / 1024) (light : AreLight delta (flat_map parts_in blocks)) where
   read : (part : Part) (u : ℕ) → u < 1024 → get_or (flat_map parts_in blocks) (part_place part (place * 1024 + u)) [] ≡ get_or (parts_in old) (part_place part u) []
   read part u low =
       let by : (place * 1024 + u) / 1024 ≡ place = omega arith in
@@ -190,19 +189,6 @@ HasMore-onward n delta some more old mid new first later part u low =
 
 pub All-more : {X : Type 0} (P : X → Type 0) (xs : List X) (i : ℕ) (d : X) → i < length xs → All P (take i xs) → P (get_or xs i d) → All P (take (i + 1) xs)
 All-more {X} P xs i d h all one = subst (All P) (sym (take_more xs i d h)) (All-append P (take i xs) (get_or xs i d ∷ []) all (All-cons P (get_or xs i d) [] one (All-nil P)))
-
--- ---- shares of blocks
-pub same_parts : (blocks others : List (Arc Block Global)) → AllZip (λ (one other : Arc Block Global). other.value ≡ one.value) blocks others → flat_map parts_in others ≡ flat_map parts_in blocks
-same_parts [] [] h = refl
-same_parts [] (other ∷ others) h = absurd h
-same_parts (block ∷ blocks) [] h = absurd h
-same_parts (block ∷ blocks) (other ∷ others) h = ap₂ (λ (xs ys : List (List Leg)). xs ++ ys) (ap (λ (b : Block). block_parts b.starts b.legs.items) h.0) (same_parts blocks others h.1)
-
-pub same_count : (blocks others : List (Arc Block Global)) → AllZip (λ (one other : Arc Block Global). other.value ≡ one.value) blocks others → length others ≡ length blocks
-same_count [] [] h = refl
-same_count [] (other ∷ others) h = absurd h
-same_count (block ∷ blocks) [] h = absurd h
-same_count (block ∷ blocks) (other ∷ others) h = ap suc (same_count blocks others h.1)
 
 -- ---- groups with more legs
 nothing_in : (legs : List Leg) → ((leg : Leg) → Contains legs leg → ⊥) → legs ≡ []

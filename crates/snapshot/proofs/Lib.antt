@@ -12,6 +12,7 @@ pub mod Indexed
 pub mod Unchanged
 pub mod Blocked
 pub mod Shared
+pub mod Regrouped
 pub mod Appended
 pub mod Differing
 pub mod Named

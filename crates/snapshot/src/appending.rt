@@ -8,9 +8,9 @@ ghost use Rattle.snapshot.specs.Blocks.{AreBlockParts, block_parts, within_block
 use crate::blocks::{BLOCK, Block};
 use crate::legs::{Leg, Part};
 use crate::regrouping::within_block;
+use chunked::SharedList;
 use roadnet::{MOST_ARCS, RoadArc};
 use std::alloc::{AllocError, Global};
-use std::sync::Arc;
 
 /// Adds the open arcs of this tail that have these legs.
 fn add_arcs(found: &mut Vec<RoadArc>, tail: u32, legs: &[Leg]) -> Result<(), AllocError>
@@ -62,7 +62,7 @@ fn with_arc(
 /// Puts the leg of an arc behind those of its tail, in a block that is made anew. Returns whether it could.
 fn add_leg(
     alloc: Global,
-    blocks: &mut [Arc<Block>],
+    blocks: &mut SharedList<Block>,
     arc: &RoadArc,
     delta: u32,
     found: &mut Vec<RoadArc>,
@@ -70,13 +70,13 @@ fn add_leg(
     requires tail { arc.now.tail / 1024 < length blocks.old }
     ensures count { length blocks.new ≡ length blocks.old }
     ensures short { IfOk result (λ done. OnTrue done (arc.now.length ≤ delta)) }
-    ensures legs { IfOk result (λ done. OnTrue done (AreLight delta (flat_map (λ block. block_parts block.value.starts block.value.legs.items) blocks.old) → HasMore (length blocks.old * 1024) (arc.now ∷ []) delta (flat_map (λ block. block_parts block.value.starts block.value.legs.items) blocks.old) (flat_map (λ block. block_parts block.value.starts block.value.legs.items) blocks.new))) }
+    ensures legs { IfOk result (λ done. OnTrue done (AreLight delta (flat_map (λ block. block_parts block.starts block.legs.items) blocks.old) → HasMore (length blocks.old * 1024) (arc.now ∷ []) delta (flat_map (λ block. block_parts block.starts block.legs.items) blocks.old) (flat_map (λ block. block_parts block.starts block.legs.items) blocks.new))) }
 {
     let place = (arc.tail / BLOCK) as usize;
-    let Some(more) = with_arc(alloc, &blocks[place], arc, delta, found)? else {
+    let Some(more) = with_arc(alloc, blocks.get(place), arc, delta, found)? else {
         return Ok(false);
     };
-    blocks[place] = Arc::new(alloc, more)?;
+    blocks.set(place, more)?;
     Ok(true)
 }
 
@@ -84,21 +84,21 @@ fn add_leg(
 /// heavy.
 pub(crate) fn with_legs(
     alloc: Global,
-    blocks: &Vec<Arc<Block>>,
+    blocks: &SharedList<Block>,
     arcs: &[RoadArc],
     delta: u32,
-) -> Result<Option<Arc<Vec<Arc<Block>>>>, AllocError>
-    requires tails { All (λ arc. arc.tail / 1024 < length blocks.now.items) arcs.now }
-    ensures count { IfOk result (λ made. IfSome made (λ more. length more.value.items ≡ length blocks.now.items)) }
+) -> Result<Option<SharedList<Block>>, AllocError>
+    requires tails { All (λ arc. arc.tail / 1024 < length blocks.now) arcs.now }
+    ensures count { IfOk result (λ made. IfSome made (λ more. length more ≡ length blocks.now)) }
     ensures short { IfOk result (λ made. IfSome made (λ more. All (λ arc. arc.length ≤ delta) arcs.now)) }
-    ensures legs { IfOk result (λ made. IfSome made (λ more. AreLight delta (flat_map (λ block. block_parts block.value.starts block.value.legs.items) blocks.now.items) → HasMore (length blocks.now.items * 1024) arcs.now delta (flat_map (λ block. block_parts block.value.starts block.value.legs.items) blocks.now.items) (flat_map (λ block. block_parts block.value.starts block.value.legs.items) more.value.items))) }
+    ensures legs { IfOk result (λ made. IfSome made (λ more. AreLight delta (flat_map (λ block. block_parts block.starts block.legs.items) blocks.now) → HasMore (length blocks.now * 1024) arcs.now delta (flat_map (λ block. block_parts block.starts block.legs.items) blocks.now) (flat_map (λ block. block_parts block.starts block.legs.items) more))) }
 {
-    let mut more = blocks.clone()?;
+    let mut more = blocks.share()?;
     let mut found = Vec::new(alloc);
     for arc in arcs {
         if !add_leg(alloc, &mut more, arc, delta, &mut found)? {
             return Ok(None);
         }
     }
-    Ok(Some(Arc::new(alloc, more)?))
+    Ok(Some(more))
 }

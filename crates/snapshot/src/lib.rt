@@ -11,6 +11,7 @@ mod placing;
 mod regrouping;
 mod roads;
 mod tails;
+mod weighing;
 
 pub use groups::{Snapshot, default_delta};
 pub use index::ArcIndex;

@@ -1,12 +1,13 @@
 //! The blocks of a network's arcs, all of them anew, or those alone whose arcs changed.
 
-ghost use Rattle.std.specs.Prelude.{◌≡◌, ℕ, ◌+◌, ◌/◌, ◌*◌, ◌≤◌, ◌<◌, ◌^◌, [], true, false, All, IfOk, OnOk, Contains, fold, length, map, max, slice_index_or};
+ghost use Rattle.std.specs.Prelude.{◌≡◌, ℕ, ◌+◌, ◌/◌, ◌*◌, ◌≤◌, ◌<◌, ◌^◌, [], true, false, All, IfOk, OnOk, Contains, length, map, slice_index_or};
 ghost use Rattle.roadnet.specs.declared.arcs.RoadArc.{RoadArc as road_arc};
+ghost use Rattle.snapshot.specs.declared.blocks.Block.{Block as any_block};
 ghost use Rattle.snapshot.specs.Blocks.{AreBlockParts, AreBlocksOf, arcs_of_block, block_parts, places_of_block, within_block};
 
 use crate::blocks::{BLOCK, Block};
 use crate::roads::Roads;
-use chunked::ChunkedArray;
+use chunked::{ChunkedArray, SharedList};
 use roadnet::RoadArc;
 use std::alloc::{AllocError, Global};
 use std::sync::Arc;
@@ -46,14 +47,13 @@ fn regrouped<R: Roads>(
     places: &[u32],
     delta: u32,
     found: &mut Vec<RoadArc>,
-) -> Result<Arc<Block>, AllocError>
+) -> Result<Block, AllocError>
     requires few { length (R.network roads.now).arcs ≤ 2 ^ 26 }
     requires places { (block : ℕ) × (places.now ≡ places_of_block block 0 (R.network roads.now).arcs) }
-    ensures { IfOk result (λ made. (block : ℕ) → places.now ≡ places_of_block block 0 (R.network roads.now).arcs → AreBlockParts (arcs_of_block block (R.network roads.now).arcs) delta (block_parts made.value.starts made.value.legs.items)) }
+    ensures { IfOk result (λ made. (block : ℕ) → places.now ≡ places_of_block block 0 (R.network roads.now).arcs → AreBlockParts (arcs_of_block block (R.network roads.now).arcs) delta (block_parts made.starts made.legs.items)) }
 {
     find_arcs(found, roads, places)?;
-    let block = Block::group(alloc, found, delta)?;
-    Ok(Arc::new(alloc, block)?)
+    Block::group(alloc, found, delta)
 }
 
 /// The blocks of all arcs.
@@ -62,13 +62,14 @@ pub(crate) fn all_blocks<R: Roads>(
     roads: &R,
     index: &[Arc<Vec<u32>>],
     delta: u32,
-) -> Result<Vec<Arc<Block>>, AllocError>
+) -> Result<SharedList<Block>, AllocError>
     requires few { length (R.network roads.now).arcs ≤ 2 ^ 26 }
+    requires size { length index.now < 2 ^ 48 }
     requires index { (block : ℕ) → block < length index.now → slice_index_or (map (λ places. places.value.items) index.now) block [] ≡ places_of_block block 0 (R.network roads.now).arcs }
-    ensures count { IfOk result (λ blocks. length blocks.items ≡ length index.now) }
-    ensures each { IfOk result (λ blocks. AreBlocksOf (R.network roads.now).arcs delta (map (λ block. block_parts block.value.starts block.value.legs.items) blocks.items)) }
+    ensures count { IfOk result (λ blocks. length blocks ≡ length index.now) }
+    ensures each { IfOk result (λ blocks. AreBlocksOf (R.network roads.now).arcs delta (map (λ block. block_parts block.starts block.legs.items) blocks)) }
 {
-    let mut blocks = Vec::with_capacity(alloc, index.len())?;
+    let mut blocks = SharedList::with_capacity(alloc, index.len())?;
     let mut found = Vec::new(alloc);
     for places in index {
         blocks.push(regrouped(alloc, roads, places, delta, &mut found)?)?;
@@ -107,80 +108,32 @@ pub(crate) fn touched_blocks(
     Ok(touched)
 }
 
-/// The arcs of a block, at whose places they are: grouped anew where the block is touched, else the older block, which is shared.
-fn next_block<R: Roads>(
-    alloc: Global,
-    old: &Arc<Block>,
-    roads: &R,
-    places: &[u32],
-    delta: u32,
-    touched: bool,
-    found: &mut Vec<RoadArc>,
-) -> Result<Arc<Block>, AllocError>
-    requires few { length (R.network roads.now).arcs ≤ 2 ^ 26 }
-    requires places { (block : ℕ) × (places.now ≡ places_of_block block 0 (R.network roads.now).arcs) }
-    ensures { IfOk result (λ made. (block : ℕ) → places.now ≡ places_of_block block 0 (R.network roads.now).arcs → (touched ≡ false → AreBlockParts (arcs_of_block block (R.network roads.now).arcs) delta (block_parts old.now.value.starts old.now.value.legs.items)) → AreBlockParts (arcs_of_block block (R.network roads.now).arcs) delta (block_parts made.value.starts made.value.legs.items)) }
-{
-    if touched {
-        return regrouped(alloc, roads, places, delta, found);
-    }
-    Arc::try_clone(old)
-}
-
-/// The blocks of all arcs, out of older ones that are theirs where they are not touched.
+/// The blocks of all arcs, out of older ones that are theirs where they are not touched: those are shared, and the others are made anew.
 pub(crate) fn blocks_after<R: Roads>(
     alloc: Global,
-    old: &[Arc<Block>],
+    old: &SharedList<Block>,
     roads: &R,
     index: &[Arc<Vec<u32>>],
     delta: u32,
     touched: &[bool],
-) -> Result<Vec<Arc<Block>>, AllocError>
+) -> Result<SharedList<Block>, AllocError>
     requires few { length (R.network roads.now).arcs ≤ 2 ^ 26 }
     requires index { (block : ℕ) → block < length index.now → slice_index_or (map (λ places. places.value.items) index.now) block [] ≡ places_of_block block 0 (R.network roads.now).arcs }
     requires blocks { length index.now ≡ length old.now }
     requires flags { length touched.now ≡ length old.now }
-    requires untouched { (block : ℕ) → block < length old.now → slice_index_or touched.now block true ≡ false → AreBlockParts (arcs_of_block block (R.network roads.now).arcs) delta (slice_index_or (map (λ block. block_parts block.value.starts block.value.legs.items) old.now) block []) }
-    ensures count { IfOk result (λ blocks. length blocks.items ≡ length old.now) }
-    ensures each { IfOk result (λ blocks. AreBlocksOf (R.network roads.now).arcs delta (map (λ block. block_parts block.value.starts block.value.legs.items) blocks.items)) }
+    requires untouched { (block : ℕ) → block < length old.now → slice_index_or touched.now block true ≡ false → AreBlockParts (arcs_of_block block (R.network roads.now).arcs) delta (slice_index_or (map (λ block. block_parts block.starts block.legs.items) old.now) block []) }
+    ensures count { IfOk result (λ blocks. length blocks ≡ length old.now) }
+    ensures each { IfOk result (λ blocks. AreBlocksOf (R.network roads.now).arcs delta (map (λ block. block_parts block.starts block.legs.items) blocks)) }
+    ensures kept { IfOk result (λ blocks. (block : ℕ) (d : any_block) → slice_index_or touched.now block true ≡ false → slice_index_or blocks block d ≡ slice_index_or old.now block d) }
 {
-    let mut blocks = Vec::with_capacity(alloc, old.len())?;
+    let mut blocks = old.share()?;
     let mut found = Vec::new(alloc);
-    for block in 0..old.len() {
-        let places = &index[block];
-        let is_touched = touched[block];
-        let next = next_block(
-            alloc,
-            &old[block],
-            roads,
-            places,
-            delta,
-            is_touched,
-            &mut found,
-        )?;
-        blocks.push(next)?;
+    for block in 0..touched.len() {
+        if !touched[block] {
+            continue;
+        }
+        let next = regrouped(alloc, roads, &index[block], delta, &mut found)?;
+        blocks.set(block, next)?;
     }
     Ok(blocks)
-}
-
-/// The greatest length of a leg of these blocks, or 0 where they have none.
-pub(crate) fn greatest_of(blocks: &[Arc<Block>]) -> u32
-    ensures { result ≡ fold max 0 (map (λ block. block.value.greatest) blocks.now) }
-{
-    let mut greatest = 0;
-    for block in blocks {
-        greatest = greatest.max(block.greatest);
-    }
-    greatest
-}
-
-/// The mean length of a leg of these blocks, rounded down, or 0 where they have none.
-pub(crate) fn mean_of(blocks: &[Arc<Block>]) -> u64 {
-    let mut total: u64 = 0;
-    let mut count: u64 = 0;
-    for block in blocks {
-        total = total.saturating_add(block.total);
-        count = count.saturating_add(block.legs.len() as u64);
-    }
-    total / count.max(1)
 }

@@ -20,8 +20,8 @@ const MOST_LISTS: u64 = 65536;
 /// The row of `source`: the least length of a walk from it to each node, or that there is none. It uses delta-stepping with the given team and queue.
 ///
 /// The nodes are in buckets by the length of the shortest way found so far. The least bucket is taken out again and again while the light arcs of its nodes
-/// bring nodes back into it; then the heavy arcs of all nodes that were taken from it are relaxed. Its only error is lack of memory: it takes 9 bytes a
-/// node beside the queue, and 24 for each arc of a phase.
+/// bring nodes back into it; then the heavy arcs of all nodes that were taken from it are relaxed. Its only error is lack of memory: it takes 8 bytes
+/// and a bit a node beside the queue, and 24 for each arc of a phase.
 pub fn row_from<Q: BucketQueue + Drop, T: Team>(
     alloc: Global,
     snapshot: &Snapshot,

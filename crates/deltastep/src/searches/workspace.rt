@@ -16,7 +16,7 @@ const FEW_PLACES: usize = 8;
 
 /// The memory that a search needs beside its row, left for the next search, of the same snapshot or another. What does not suit that search is made anew,
 /// such as a ring after a search that was led to its target, which leaves a queue in its place. It takes no memory before a search has left some. After
-/// that it takes at most 27 bytes a node: with a ring 1 to 17, and 24 to 152 a list; with a queue 14 to 27, 24 a list, and what these lists hold. After a
+/// that it takes at most 27 bytes a node: with a ring at most 17, and 24 to 152 a list; with a queue 14 to 27, 24 a list, and what these lists hold. After a
 /// search for one distance it takes 8 bytes a node more, and 4 for each node that any of them reached.
 #[derive(Drop)]
 pub struct Workspace {

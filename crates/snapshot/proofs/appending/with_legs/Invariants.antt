@@ -6,7 +6,7 @@ use Rattle.snapshot.proofs.appending.with_legs.Given as goal
 
 abbrev pub invariant-loop-arc : goal.invariant-loop-arc
 invariant-loop-arc l = record {
-  count : length l.more.items ≡ length l.blocks.items;
+  count : length l.more ≡ length l.blocks;
   short : All (λ arc. arc.length ≤ l.delta) (take l.arc-index l.arcs);
-  legs : AreLight l.delta (flat_map parts_in l.blocks.items) → HasMore (length l.blocks.items * 1024) (take l.arc-index l.arcs) l.delta (flat_map parts_in l.blocks.items) (flat_map parts_in l.more.items);
+  legs : AreLight l.delta (flat_map parts_in l.blocks) → HasMore (length l.blocks * 1024) (take l.arc-index l.arcs) l.delta (flat_map parts_in l.blocks) (flat_map parts_in l.more);
 }

@@ -1,23 +1,24 @@
-use Rattle.std.proofs.Common.{◌≡◌, ◌∙◌, ◌+◌, ◌<◌, true, false, [], length, get_or, map, ap, sym, subst, arith}
-use Rattle.std.proofs.lemmas.List.{length_push, get_or-map, get_or_default}
-use Rattle.snapshot.specs.Blocks.{AreBlockParts, arcs_of_block}
-use Rattle.snapshot.proofs.Shared.{blocks_more, parts_in}
+use Rattle.std.proofs.Common.{◌≡◌, ◌∙◌, ◌<◌, true, false, [], length, get_or, map, ap, sym, arith}
+use Rattle.std.proofs.lemmas.List.{get_or-map, get_or_default, length-set}
+use Rattle.snapshot.proofs.Regrouped.{all_done, done_more, kept_more}
 use Rattle.snapshot.proofs.regrouping.blocks_after.Goals as goal
 
 pub loop-block-preserved : goal.loop-block-preserved
 loop-block-preserved g c =
-    let h : c.loop-block.block < length c.args.old.now = omega (arith, c.loop-block-test.true) in
-    let h' : c.loop-block.block < length c.args.index.now = omega (arith, c.loop-block-test.true, c.requires.blocks) in
-    let read : c.deref-in-loop-block.result.now ≡ get_or (map (λ places. places.value.items) c.args.index.now) c.loop-block.block [] = c.deref-in-loop-block.ensures.value ∙ (ap (λ v. v.items) c.deref.ensures ∙ (ap (λ places. places.value.items) c.index-index-block.is ∙ sym (get_or-map (λ places. places.value.items) c.args.index.now c.loop-block.block c.index-index-block.result [] h'))) in
-    let old : get_or (map parts_in c.args.old.now) c.loop-block.block [] ≡ parts_in c.index-old-block.result = get_or-map parts_in c.args.old.now c.loop-block.block c.index-old-block.result [] h ∙ ap parts_in (sym c.index-old-block.is) in
-    rw c.in_ok-push.ensures.items
+    let arcs = (g.R.Roads.network c.args.roads.now).arcs in
+    let blocks = c.loop-block.blocks in
+    let k = c.loop-block.block in
+    let next = c.in_ok-next.next in
+    let h : k < length c.args.index.now = omega (arith, c.loop-block-test.true, c.requires.flags, c.requires.blocks) in
+    let mark : get_or c.args.touched.now k true ≡ true = get_or_default c.args.touched.now k true false (omega (arith, c.loop-block-test.true)) ∙ c.if-not-touched-block.false in
+    let read : c.deref-in-loop-block.result.now ≡ get_or (map (λ places. places.value.items) c.args.index.now) k [] = c.deref-in-loop-block.ensures.value ∙ (ap (λ v. v.items) c.deref.ensures ∙ (ap (λ places. places.value.items) c.index-index-block.is ∙ sym (get_or-map (λ places. places.value.items) c.args.index.now k c.index-index-block.result [] h))) in
+    rw c.in_ok-set.ensures.ok
     (record {
-      count = length_push c.loop-block.blocks.items c.in_ok-next.next ∙ ap (λ n. n + 1) c.loop-block.invariant.count;
-      each = blocks_more (g.R.Roads.network c.args.roads.now).arcs c.args.delta c.loop-block.blocks.items c.in_ok-next.next c.loop-block.block c.loop-block.invariant.count c.loop-block.invariant.each (c.in_ok-next.ensures c.loop-block.block (read ∙ c.requires.index c.loop-block.block h') (λ untouched. subst (AreBlockParts (arcs_of_block c.loop-block.block (g.R.Roads.network c.args.roads.now).arcs) c.args.delta) old (c.requires.untouched c.loop-block.block h (get_or_default c.args.touched.now c.loop-block.block true false (omega (arith, h, c.requires.flags)) ∙ untouched))));
+      count = length-set blocks k next ∙ c.loop-block.invariant.count;
+      kept = kept_more arcs c.args.delta c.args.touched.now c.args.old.now blocks k next mark c.loop-block.invariant.kept;
+      done = done_more arcs c.args.delta c.args.touched.now k blocks next (c.in_ok-next.ensures k (read ∙ c.requires.index k h)) c.loop-block.invariant.done;
     })
 
-pub next_block-requires-clause-places : goal.next_block-requires-clause-places
-next_block-requires-clause-places g c =
-    let h' : c.loop-block.block < length c.args.index.now = omega (arith, c.loop-block-test.true, c.requires.blocks) in
-    let read : c.deref-in-loop-block.result.now ≡ get_or (map (λ places. places.value.items) c.args.index.now) c.loop-block.block [] = c.deref-in-loop-block.ensures.value ∙ (ap (λ v. v.items) c.deref.ensures ∙ (ap (λ places. places.value.items) c.index-index-block.is ∙ sym (get_or-map (λ places. places.value.items) c.args.index.now c.loop-block.block c.index-index-block.result [] h'))) in
-    (c.loop-block.block, read ∙ c.requires.index c.loop-block.block h')
+pub returns-clause-each : goal.returns-clause-each
+returns-clause-each g c =
+    all_done (g.R.Roads.network c.args.roads.now).arcs c.args.delta c.args.touched.now c.args.old.now c.loop-block.blocks c.loop-block.block (omega (arith, c.loop-block-test.false, c.loop-block.auto.block-end, c.requires.flags, c.loop-block.invariant.count)) c.loop-block.invariant.count c.loop-block.invariant.kept c.loop-block.invariant.done c.requires.untouched

@@ -14,4 +14,4 @@ on_true_of false P f = tt
 pub returns : goal.returns
 returns c =
     let s = c.self.inside in
-    on_true_of s.joined ((u : ℕ) → legs_of c.args.self.now Heavy u ≡ []) (λ e. subst (λ (v : Groups). (u : ℕ) → legs_of v Heavy u ≡ []) c.self.view_is (none_is_heavy s.nodes s.delta s.greatest s.narrow (flat_map parts_in s.blocks.value.items) s.joined e))
+    on_true_of s.joined ((u : ℕ) → legs_of c.args.self.now Heavy u ≡ []) (λ e. subst (λ (v : Groups). (u : ℕ) → legs_of v Heavy u ≡ []) c.self.view_is (none_is_heavy s.nodes s.delta s.greatest s.narrow (flat_map parts_in s.blocks.value) s.joined e))

@@ -6,7 +6,7 @@ use Rattle.snapshot.proofs.groups.Snapshot.of_blocks.Goals as goal
 pub invariant_of-result : goal.invariant_of-result
 invariant_of-result g c =
     rw c.in_ok-blocks.ensures.ok
-    (c.requires.count ∙ ap block_count (sym c.node_count-nodes.ensures.value), IsGrouped-made (g.R.Roads.network c.args.roads.now) c.node_count-nodes.ensures.network c.args.delta c.args.blocks.items c.node_count-nodes.result c.greatest_of-greatest.result c.node_count-nodes.ensures.value c.requires.count c.requires.each (rw c.deref.ensures.value at c.greatest_of-greatest.ensures) c.requires.delta, (c.narrow_width-narrow.ensures.positive, c.narrow_width-narrow.ensures.narrow))
+    (c.requires.count ∙ ap block_count (sym c.node_count-nodes.ensures.value), IsGrouped-made (g.R.Roads.network c.args.roads.now) c.node_count-nodes.ensures.network c.args.delta c.args.blocks c.node_count-nodes.result c.args.greatest c.node_count-nodes.ensures.value c.requires.count c.requires.each c.requires.greatest c.requires.delta, (c.narrow_width-narrow.ensures.positive, c.narrow_width-narrow.ensures.narrow))
 
 pub returns-clause-network : goal.returns-clause-network
-returns-clause-network g c = rw c.in_ok-blocks.ensures.ok (IsSnapshotOf-made (g.R.Roads.network c.args.roads.now) c.node_count-nodes.ensures.network c.args.delta c.args.blocks.items c.node_count-nodes.result c.greatest_of-greatest.result c.node_count-nodes.ensures.value c.requires.count c.requires.each (rw c.deref.ensures.value at c.greatest_of-greatest.ensures))
+returns-clause-network g c = rw c.in_ok-blocks.ensures.ok (IsSnapshotOf-made (g.R.Roads.network c.args.roads.now) c.node_count-nodes.ensures.network c.args.delta c.args.blocks c.node_count-nodes.result c.args.greatest c.node_count-nodes.ensures.value c.requires.count c.requires.each c.requires.greatest)

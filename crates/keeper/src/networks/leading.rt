@@ -1,6 +1,7 @@
 // Whether groups lead from one network to another, decided without memory.
 ghost use Rattle.std.specs.Prelude.{◌≡◌, ◌≤◌, ◌<◌, ◌+◌, None, Some, option_map};
 ghost use Rattle.std.specs.Bool.{Decides};
+ghost use Rattle.roadnet.specs.declared.commands.Command.TheVariants.{Lay};
 ghost use Rattle.roadnet.specs.Net.{Net, IsNetwork, longest_arc, most_nodes};
 ghost use Rattle.roadnet.specs.Step.{after, changed, first_refusal, new_arc, refusal_of};
 ghost use Rattle.roadnet.specs.Batches.{changed_by, changed_by_all, first_refusal_of_all};
@@ -54,6 +55,19 @@ fn laid(tail: u64, head: u64, length: u64) -> RoadArc
     }
 }
 
+/// What number `k` shows after an arc was laid.
+fn seen_after_lay(tail: u64, head: u64, length: u64, k: u64, seen: SeenPlace) -> SeenPlace
+    ensures { (net : Net) → IsNetwork net → refusal_of net (Lay tail head length) ≡ None → SeesAt net k seen → SeesAt (changed net (Lay tail head length)) k result }
+{
+    let SeenPlace { arc, marked, arcs } = seen;
+    let arcs = one_more(arcs);
+    if arcs != k {
+        return SeenPlace { arc, marked, arcs };
+    }
+    let arc = Some(laid(tail, head, length));
+    SeenPlace { arc, marked, arcs }
+}
+
 /// What number `k` shows after an admitted command.
 fn seen_after_one(command: &Command, k: u64, seen: SeenPlace) -> SeenPlace
     ensures { (net : Net) → IsNetwork net → refusal_of net command.now ≡ None → SeesAt net k seen → SeesAt (changed net command.now) k result }
@@ -95,14 +109,7 @@ fn seen_after_one(command: &Command, k: u64, seen: SeenPlace) -> SeenPlace
             let marked = false;
             SeenPlace { arc, marked, arcs }
         }
-        Command::Lay { tail, head, length } => {
-            let arcs = one_more(arcs);
-            if arcs != k {
-                return SeenPlace { arc, marked, arcs };
-            }
-            let arc = Some(laid(tail, head, length));
-            SeenPlace { arc, marked, arcs }
-        }
+        Command::Lay { tail, head, length } => seen_after_lay(tail, head, length, k, seen),
     }
 }
 

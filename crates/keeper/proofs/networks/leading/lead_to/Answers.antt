@@ -1,4 +1,4 @@
-use Rattle.std.proofs.Common.{◌≡◌, ◌∙◌, ◌+◌, ◌≤◌, Some, length, true≢false, refl, ap, sym, arith}
+use Rattle.std.proofs.Common.{◌≡◌, ◌∙◌, ◌≤◌, Some, length, true≢false, refl, ap, sym, arith}
 use Rattle.roadnet.specs.Net.{Net, IsNetwork}
 use Rattle.roadnet.specs.Batches.{changed_by_all}
 use Rattle.roadnet.proofs.GroupsInTurn.{IsNetwork-changed_by_all}

@@ -1,6 +1,6 @@
 use Rattle.std.proofs.Common.{true, false}
 use Rattle.roadnet.specs.declared.arcs.RoadArc.{RoadArc}
-use Rattle.keeper.proofs.Leads.{see-updated, see-beside, see-mark, see-mark_other, see-unmark, see-unmark_other, see-lay, see-lay_other, set_within}
+use Rattle.keeper.proofs.Leads.{see-updated, see-beside, see-mark, see-mark_other, see-unmark, see-unmark_other, set_within}
 use Rattle.keeper.proofs.networks.leading.seen_after_one.Goals as goal
 
 pub returns-then-named-k : goal.returns-then-named-k
@@ -35,12 +35,7 @@ returns-then-node-k-2 c net ok none s = rw c.in-Unmark.is (see-unmark_other net 
 pub returns-else-node-k-2 : goal.returns-else-node-k-2
 returns-else-node-k-2 c net ok none s = rw c.in-Unmark.is (see-unmark net c.args.k c.args.seen s c.in-Unmark.node c.if-node-k-2.false)
 
-pub returns-then-arcs-k : goal.returns-then-arcs-k
-returns-then-arcs-k c net ok none s =
+pub returns-in-Lay : goal.returns-in-Lay
+returns-in-Lay c net ok none s =
     let admitted = rw c.in-Lay.is at none in
-    rw c.in-Lay.is (see-lay_other net c.args.k c.args.seen s c.in-Lay.tail c.in-Lay.head c.in-Lay.length c.one_more-arcs.result ok admitted c.one_more-arcs.ensures c.if-arcs-k.true)
-
-pub returns-else-arcs-k : goal.returns-else-arcs-k
-returns-else-arcs-k c net ok none s =
-    let admitted = rw c.in-Lay.is at none in
-    rw c.in-Lay.is (see-lay net c.args.k c.args.seen s c.in-Lay.tail c.in-Lay.head c.in-Lay.length c.one_more-arcs.result ok admitted c.one_more-arcs.ensures c.laid.result c.if-arcs-k.false c.laid.ensures)
+    rw c.in-Lay.is (c.seen_after_lay.ensures net ok admitted s)

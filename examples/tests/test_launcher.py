@@ -57,11 +57,12 @@ class Launcher(unittest.TestCase):
         self.build('cat; echo "$#: $2" >&2; exit 3')
         self.assertEqual(self.run_it("apply", "a b", path=self.without, text="lines\n"), (3, "lines\n", "2: a b\n"))
 
-    def test_a_server_has_one_arena(self) -> None:
-        """Unless whoever calls it says how many."""
-        self.build('echo "${MALLOC_ARENA_MAX-none}"')
-        self.assertEqual([self.run_it(word)[1] for word in ("serve", "check")], ["1\n", "none\n"])
-        self.assertEqual([self.run_it("serve", MALLOC_ARENA_MAX=value)[1] for value in ("5", "")], ["5\n", "\n"])
+    def test_a_server_has_one_arena_and_thresholds(self) -> None:
+        """Unless whoever calls it says what they are."""
+        for name, own in (("MALLOC_ARENA_MAX", "1"), ("MALLOC_MMAP_THRESHOLD_", "33554432"), ("MALLOC_TRIM_THRESHOLD_", "67108864")):
+            self.build(f'echo "${{{name}-none}}"')
+            self.assertEqual([self.run_it(word)[1] for word in ("serve", "check")], [f"{own}\n", "none\n"])
+            self.assertEqual([self.run_it("serve", **{name: value})[1] for value in ("5", "")], ["5\n", "\n"])
 
     def test_a_build_that_is_stale_is_built_anew(self) -> None:
         for path in (self.source, self.top / "crates.txt", self.source.with_name("new.rt"), self.source.with_name("new.antt")):

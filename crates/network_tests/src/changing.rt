@@ -39,3 +39,27 @@ fn snapshot_after_a_change(rt: HostRuntime) {
     let found = closed(rt.alloc()).expect(&rt, "the group is admitted");
     assert!(rt; found == (1, 1, (7, true)));
 }
+
+/// The width by which a search takes the legs, once the arc of length 0 to node 2 has a million: the eight arcs have 1,000,052 together.
+fn width_after(alloc: Global) -> Result<u32, Refusal> {
+    let older = SharedNetwork::of(alloc, &six(alloc)?)?;
+    let group = Group::one(Command::Set {
+        arc: 7,
+        length: 1_000_000,
+    });
+    let newer = older.after(alloc, from_ref(&group))?;
+    let numbers = changed_arcs(alloc, &older, &newer, from_ref(&group))?;
+    let before = Snapshot::build(alloc, &older, 2_147_483_647)?;
+    let index = ArcIndex::build(alloc, &newer)?;
+    match before.after(alloc, &newer, &index, &numbers)?.narrowed()? {
+        Some(narrow) => Ok(narrow.delta()),
+        None => Ok(0),
+    }
+}
+
+/// The greatest power of two up to the mean length, 125,006. No clause tells it. Refused is a body that carries on the sums of the older legs.
+#[test]
+fn width_after_a_change(rt: HostRuntime) {
+    let width = width_after(rt.alloc()).expect(&rt, "the group is admitted");
+    assert!(rt; width == 65_536);
+}

@@ -5,7 +5,7 @@ use Rattle.std.proofs.Math.Seq.{take-set-lt, take-append-add}
 use Rattle.std.proofs.lemmas.Bool.{cases_lt}
 use Rattle.std.proofs.lemmas.List.{append-nil, drop-take, length-take, length-take-le, get_or-take, get_or_default, take_all, take_more_set, take-replicate, take-take}
 use Rattle.std.proofs.lemmas.List.Concat.{flat_map-append}
-use Rattle.chunked.proofs.Joined.{length-joined, get_or-joined, take-before, take-joined, set-joined}
+use Rattle.chunked.proofs.Joined.{length-joined, get_or-joined, take-joined, set-joined}
 
 pub nested : {A B T : Type 0} (f : B → List T) (g : A → List B) (xs : List A) → flat_map f (flat_map g xs) ≡ flat_map (λ x. flat_map f (g x)) xs
 nested f g [] = refl
@@ -41,27 +41,18 @@ module _ {T C : Type 0} (items_of : C → List T) (n : ℕ) (full : (chunk : C) 
   joined_more : (chunks : List C) (c : C) → flat_map items_of (chunks ++ c ∷ []) ≡ flat_map items_of chunks ++ items_of c
   joined_more chunks c = flat_map-append items_of chunks (c ∷ []) ∙ ap (λ (l : List T). flat_map items_of chunks ++ l) (append-nil (items_of c))
 
+  -- ---- the next items, in a chunk of their own
+  pub append_items : (chunks : List C) (len : ℕ) (c : C) (items : List T) → len ≡ length chunks * n → length items ≤ n → take (length items) (items_of c) ≡ items → take (len + length items) (flat_map items_of (chunks ++ c ∷ [])) ≡ take len (flat_map items_of chunks) ++ items
+  append_items chunks len c items size few begins =
+      let long : length (flat_map items_of chunks) ≡ len = length-joined items_of n full chunks ∙ sym size in
+      let whole : take len (flat_map items_of chunks) ≡ flat_map items_of chunks = take_all len (flat_map items_of chunks) (omega (arith, long)) in
+      ap (take (len + length items)) (joined_more chunks c)
+      ∙ (ap (λ m. take (m + length items) (flat_map items_of chunks ++ items_of c)) (sym long)
+      ∙ (take-append-add (flat_map items_of chunks) (items_of c) (length items) ∙ ap₂ (λ (xs ys : List T). xs ++ ys) (sym whole) begins))
+
   -- ---- one item more, in a chunk of its own
   pub push_chunk : (chunks : List C) (c : C) (len : ℕ) (v : T) → len ≡ length chunks * n → 1 ≤ n → items_of c ≡ replicate n v → take (len + 1) (flat_map items_of (chunks ++ c ∷ [])) ≡ take len (flat_map items_of chunks) ++ v ∷ []
-  push_chunk chunks c len v size some is =
-      let long : length (flat_map items_of chunks) ≡ len = length-joined items_of n full chunks ∙ sym size in
-      let one : take 1 (items_of c) ≡ v ∷ [] = ap (take 1) is ∙ take-replicate 1 n v some in
-      let whole : take len (flat_map items_of chunks) ≡ flat_map items_of chunks = take_all len (flat_map items_of chunks) (omega (arith, long)) in
-      ap (take (len + 1)) (joined_more chunks c)
-      ∙ (ap (λ m. take (m + 1) (flat_map items_of chunks ++ items_of c)) (sym long)
-      ∙ (take-append-add (flat_map items_of chunks) (items_of c) 1 ∙ ap₂ (λ (xs ys : List T). xs ++ ys) (sym whole) one))
-
-  -- ---- the next items, in a chunk behind the first k
-  pub append_items : (chunks more : List C) (k len : ℕ) (c : C) (items : List T) → len ≡ k * n → k ≤ length chunks → length items ≤ n → take (k + 1) more ≡ take k chunks ++ c ∷ [] → take (length items) (items_of c) ≡ items → take (len + length items) (flat_map items_of more) ≡ take len (flat_map items_of chunks) ++ items
-  append_items chunks more k len c items at fits few laid begins =
-      let before : flat_map items_of (take k chunks) ≡ take len (flat_map items_of chunks) = take-before items_of n full chunks k ∙ ap (λ m. take m (flat_map items_of chunks)) (sym at) in
-      let size : length (flat_map items_of (take k chunks)) ≡ len = length-joined items_of n full (take k chunks) ∙ (ap (λ m. m * n) (length-take-le k chunks fits) ∙ sym at) in
-      let more' : take ((k + 1) * n) (flat_map items_of more) ≡ flat_map items_of (take k chunks) ++ items_of c = sym (take-before items_of n full more (k + 1)) ∙ (ap (flat_map items_of) laid ∙ joined_more (take k chunks) c) in
-      let room : len + length items ≤ (k + 1) * n = omega (arith, at, few) in
-      sym (take-take (len + length items) ((k + 1) * n) (flat_map items_of more) room)
-      ∙ (ap (take (len + length items)) more'
-      ∙ (ap (λ m. take (m + length items) (flat_map items_of (take k chunks) ++ items_of c)) (sym size)
-      ∙ (take-append-add (flat_map items_of (take k chunks)) (items_of c) (length items) ∙ ap₂ (λ (xs ys : List T). xs ++ ys) before begins)))
+  push_chunk chunks c len v size some is = append_items chunks len c (v ∷ []) size some (ap (take 1) is ∙ take-replicate 1 n v some)
 
   -- ---- the items of one chunk
   pub chunk_is : (chunks : List C) (len k : ℕ) (c : C) → len ≤ length chunks * n → k < length chunks → k * n < len → c ≡ get_or chunks k c → take (min n (len - k * n)) (items_of c) ≡ take n (drop (k * n) (take len (flat_map items_of chunks)))

@@ -1,29 +1,27 @@
 ghost use Rattle.std.specs.Prelude.{◌≡◌};
 
-use crate::chunks::{CHUNK, Chunk, put};
-use crate::table::Table;
-use crate::tables::{TABLE, chunk_at, lay, share};
+use crate::chunks::Chunk;
+use crate::lists::SharedList;
+use crate::pieces::CHUNK;
 use std::alloc::{AllocError, Global};
 use std::marker::Model;
-use std::sync::Arc;
 
-/// An array in chunks of 1,024 items, and these in tables of 64, which its versions share. To share it costs a counter for each table, and a change copies the
-/// one chunk that it touches and the table of that one, unless nobody else has them.
+/// An array in chunks of 1,024 items, which its versions share, as the items of a `SharedList`. A change copies the one chunk that it touches, unless nobody
+/// else has it.
 #[derive(Drop)]
 pub struct ChunkedArray<T> {
-    pub(crate) len: usize,
-    pub(crate) tables: Vec<Arc<Table<Chunk<T>>>>,
+    len: usize,
+    chunks: SharedList<Chunk<T>>,
 }
 
 impl<T> Model for ChunkedArray<T> {
-    ghost use Rattle.std.specs.Prelude.{◌≤◌, ◌*◌, List, take, length, flat_map};
-    ghost use Rattle.chunked.specs.Tables.{chunks_of};
+    ghost use Rattle.std.specs.Prelude.{◌≡◌, ◌+◌, ◌/◌, List, take, length, flat_map};
 
     ghost Value = { List T };
 
-    ghost view = { λ a. take a.len (flat_map (λ chunk. chunk.items.items) (chunks_of a.tables.items)) };
+    ghost view = { λ a. take a.len (flat_map (λ chunk. chunk.items.items) a.chunks) };
 
-    ghost invariant = { λ a. a.len ≤ length a.tables.items * 65536 };
+    ghost invariant = { λ a. length a.chunks ≡ (a.len + 1023) / 1024 };
 }
 
 impl<T: Copy + Drop> ChunkedArray<T> {
@@ -34,8 +32,8 @@ impl<T: Copy + Drop> ChunkedArray<T> {
     pub fn from_slice(alloc: Global, items: &[T]) -> Result<ChunkedArray<T>, AllocError>
         ensures { IfOk result (λ array. array ≡ items.now) }
     {
-        let tables = Vec::with_capacity(alloc, items.len().div_ceil(TABLE))?;
-        let mut array = ChunkedArray { len: 0, tables };
+        let chunks = SharedList::with_capacity(alloc, items.len().div_ceil(CHUNK))?;
+        let mut array = ChunkedArray { len: 0, chunks };
         for k in 0..items.len().div_ceil(CHUNK) {
             let from = k * CHUNK;
             array.append(alloc, &items[from..from + CHUNK.min(items.len() - from)])?;
@@ -52,8 +50,7 @@ impl<T: Copy + Drop> ChunkedArray<T> {
         ensures ok { OnOk result (self.new ≡ self.old ++ items.now) }
         ensures err { OnErr result (self.new ≡ self.old) }
     {
-        let chunk = Arc::new(alloc, Chunk::beginning(alloc, items)?)?;
-        lay(alloc, &mut self.tables, self.len / CHUNK, chunk)?;
+        self.chunks.push(Chunk::beginning(alloc, items)?)?;
         self.len += items.len();
         Ok(())
     }
@@ -70,7 +67,7 @@ impl<T: Copy + Drop> ChunkedArray<T> {
         requires place { place < length self.now }
         ensures item { (d : T) → slice_index_or self.now place d ≡ result.now }
     {
-        &chunk_at(&self.tables, place / CHUNK).items[place % CHUNK]
+        &self.chunks.get(place / CHUNK).items[place % CHUNK]
     }
 
     /// How many chunks the items take.
@@ -87,17 +84,17 @@ impl<T: Copy + Drop> ChunkedArray<T> {
         if k >= self.len.div_ceil(CHUNK) {
             return &[];
         }
-        &chunk_at(&self.tables, k).items[..CHUNK.min(self.len - k * CHUNK)]
+        &self.chunks.get(k).items[..CHUNK.min(self.len - k * CHUNK)]
     }
 
-    /// The same array once more: it costs a counter for each table.
+    /// The same array once more: it costs a counter for each 4,096 chunks.
     pub fn share(&self) -> Result<ChunkedArray<T>, AllocError>
         ensures { IfOk result (λ shared. shared ≡ self.now) }
     {
-        let tables = share(&self.tables)?;
+        let chunks = self.chunks.share()?;
         Ok(ChunkedArray {
             len: self.len,
-            tables,
+            chunks,
         })
     }
 
@@ -108,8 +105,7 @@ impl<T: Copy + Drop> ChunkedArray<T> {
         ensures ok { OnOk result (self.new ≡ slice_set self.old place value) }
         ensures err { OnErr result (self.new ≡ self.old) }
     {
-        let alloc = *self.tables.allocator();
-        put(alloc, &mut self.tables[place / TABLE], place % TABLE, value)
+        self.chunks.put(place, value)
     }
 
     /// Adds an item at the end. The one error is want of memory, and the array is as it was.
@@ -118,15 +114,14 @@ impl<T: Copy + Drop> ChunkedArray<T> {
         ensures ok { OnOk result (self.new ≡ self.old ++ value ∷ []) }
         ensures err { OnErr result (self.new ≡ self.old) }
     {
-        let alloc = *self.tables.allocator();
         let place = self.len;
         if place % CHUNK == 0 {
-            let chunk = Arc::new(alloc, Chunk::filled(alloc, value)?)?;
-            lay(alloc, &mut self.tables, place / CHUNK, chunk)?;
+            let alloc = self.chunks.allocator();
+            self.chunks.push(Chunk::filled(alloc, value)?)?;
             self.len = place + 1;
             return Ok(());
         }
-        put(alloc, &mut self.tables[place / TABLE], place % TABLE, value)?;
+        self.chunks.put(place, value)?;
         self.len = place + 1;
         Ok(())
     }

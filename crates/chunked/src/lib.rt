@@ -4,11 +4,12 @@
 mod arrays;
 mod chunks;
 mod lists;
+mod pieces;
 mod table;
 mod tables;
 mod words;
 
 pub use arrays::ChunkedArray;
-pub use chunks::CHUNK;
 pub use lists::SharedList;
+pub use pieces::CHUNK;
 pub use words::{ChunkedWords, WordTable};

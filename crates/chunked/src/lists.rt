@@ -1,38 +1,39 @@
 ghost use Rattle.std.specs.Prelude.{◌≡◌};
 
 use crate::table::Table;
-use crate::tables::{CHUNKS, chunk_at, lay, replace, share};
+use crate::tables::{NESTED, item_at, lay, put_nested};
 use std::alloc::{AllocError, Global};
 use std::marker::Model;
 use std::sync::Arc;
 
-/// A list of items of any size, each behind a counter, in tables of 64, which its versions share. To share it costs a counter for each table, and a change
-/// copies the one table that it touches, unless nobody else has that.
+/// A list of items of any size, each behind a counter, in tables of 64, and these in tables of 64, which its versions share. To share it costs a counter for
+/// each 4,096 items, and a change copies the two tables that it touches, unless nobody else has them.
 #[derive(Drop)]
 pub struct SharedList<C> {
-    len: usize,
-    tables: Vec<Arc<Table<C>>>,
+    pub(crate) len: usize,
+    pub(crate) tables: Vec<Arc<Table<Table<C>>>>,
 }
 
 impl<C> Model for SharedList<C> {
     ghost use Rattle.std.specs.Prelude.{◌≤◌, ◌*◌, List, take, length};
-    ghost use Rattle.chunked.specs.Tables.{chunks_of};
+    ghost use Rattle.chunked.specs.Tables.{items_of};
 
     ghost Value = { List C };
 
-    ghost view = { λ a. take a.len (chunks_of a.tables.items) };
+    ghost view = { λ a. take a.len (items_of a.tables.items) };
 
-    ghost invariant = { λ a. a.len ≤ length a.tables.items * 64 };
+    ghost invariant = { λ a. a.len ≤ length a.tables.items * 4096 };
 }
 
 impl<C: Drop> SharedList<C> {
-    ghost use Rattle.std.specs.Prelude.{◌≡◌, ◌<◌, ◌^◌, ◌++◌, [], ◌∷◌, length, IfOk, OnOk, OnErr, slice_index_or, slice_set};
+    ghost use Rattle.chunked.specs.Tables.{items_of};
+    ghost use Rattle.std.specs.Prelude.{◌≡◌, ◌≤◌, ◌<◌, ◌*◌, ◌^◌, ◌++◌, [], ◌∷◌, length, take, IfOk, OnOk, OnErr, slice_index_or, slice_set};
 
     /// No items, with room for so many.
     pub fn with_capacity(alloc: Global, count: usize) -> Result<SharedList<C>, AllocError>
         ensures { IfOk result (λ list. list ≡ []) }
     {
-        let tables = Vec::with_capacity(alloc, count.div_ceil(CHUNKS))?;
+        let tables = Vec::with_capacity(alloc, count.div_ceil(NESTED))?;
         Ok(SharedList { len: 0, tables })
     }
 
@@ -49,14 +50,28 @@ impl<C: Drop> SharedList<C> {
         requires place { place < length self.now }
         ensures item { (d : C) → slice_index_or self.now place d ≡ result.now }
     {
-        chunk_at(&self.tables, place)
+        item_at(&self.tables, place)
     }
 
-    /// The same list once more: it costs a counter for each table.
+    /// Where its items are allocated.
+    pub(crate) fn allocator(&self) -> Global {
+        *self.tables.allocator()
+    }
+
+    /// The tables of the items, to be read again and again. Behind the items whatever stands there is of no account.
+    #[inline(always)]
+    pub(crate) fn tables(&self) -> &[Arc<Table<Table<C>>>]
+        ensures items { take (length self.now) (items_of result.now) ≡ self.now }
+        ensures room { length self.now ≤ length result.now * 4096 }
+    {
+        &self.tables
+    }
+
+    /// The same list once more: it costs a counter for each 4,096 items.
     pub fn share(&self) -> Result<SharedList<C>, AllocError>
         ensures { IfOk result (λ shared. shared ≡ self.now) }
     {
-        let tables = share(&self.tables)?;
+        let tables = self.tables.clone()?;
         Ok(SharedList {
             len: self.len,
             tables,
@@ -69,19 +84,13 @@ impl<C: Drop> SharedList<C> {
         ensures ok { OnOk result (self.new ≡ slice_set self.old place item) }
         ensures err { OnErr result (self.new ≡ self.old) }
     {
-        let alloc = *self.tables.allocator();
-        let item = Arc::new(alloc, item)?;
-        replace(
-            alloc,
-            &mut self.tables[place / CHUNKS],
-            place % CHUNKS,
-            item,
-        )
+        let item = Arc::new(*self.tables.allocator(), item)?;
+        put_nested(&mut self.tables[place / NESTED], place % NESTED, item)
     }
 
     /// Adds an item at the end. The one error is want of memory, and the list is as it was.
     pub fn push(&mut self, item: C) -> Result<(), AllocError>
-        requires room { length self.old < 2 ^ 48 }
+        requires room { length self.old < 2 ^ 63 }
         ensures ok { OnOk result (self.new ≡ self.old ++ item ∷ []) }
         ensures err { OnErr result (self.new ≡ self.old) }
     {

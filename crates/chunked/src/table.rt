@@ -2,9 +2,9 @@ ghost use Rattle.std.specs.Prelude.{◌≡◌, length};
 
 use std::sync::Arc;
 
-/// The chunks of one table. Where the array ends in it, whatever stands behind its end is of no account.
+/// 64 items, each behind a counter. Where a list ends in it, whatever stands behind its end is of no account.
 #[derive(Drop)]
 pub(crate) struct Table<C> {
-    pub(crate) chunks: Vec<Arc<C>>,
-    ghost full: { length chunks.items ≡ 64 },
+    pub(crate) items: [Arc<C>; 64],
+    ghost full: { length items ≡ 64 },
 }

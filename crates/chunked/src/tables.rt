@@ -1,93 +1,93 @@
-//! Chunks in tables of 64, which versions of an array share.
+//! Items in tables of 64, and these in tables of 64, which versions of a list share.
 
 ghost use Rattle.std.specs.Prelude.{◌≡◌, ◌≤◌, ◌<◌, ◌+◌, ◌*◌, ◌++◌, [], ◌∷◌, length, IfOk, OnOk, OnErr, replicate, take, slice_index_or, slice_set};
-ghost use Rattle.chunked.specs.Tables.{table_chunks, chunks_of};
+ghost use Rattle.chunked.specs.Tables.{table_items, nested_items, items_of};
 
 use crate::table::Table;
 use std::alloc::{AllocError, Global};
 use std::sync::Arc;
 
-/// How many chunks a table has.
-pub(crate) const CHUNKS: usize = 64;
+/// How many items a table has.
+const ITEMS: usize = 64;
 
-/// How many items the chunks of a table have together.
-pub(crate) const TABLE: usize = 65536;
+/// How many items the tables of a table have together.
+pub(crate) const NESTED: usize = 4096;
 
 impl<C: Drop> Table<C> {
-    /// A table of shares of one chunk.
-    fn filled(alloc: Global, chunk: &Arc<C>) -> Result<Table<C>, AllocError>
-        ensures { IfOk result (λ table. table_chunks table ≡ replicate 64 chunk.now.value) }
+    /// A table of shares of one item.
+    fn filled(alloc: Global, item: &Arc<C>) -> Result<Table<C>, AllocError>
+        ensures { IfOk result (λ table. table_items table ≡ replicate 64 item.now.value) }
     {
-        let mut chunks = Vec::with_capacity(alloc, CHUNKS)?;
-        for _k in 0..CHUNKS {
-            chunks.push(chunk.clone()?)?;
+        let mut items = Vec::with_capacity(alloc, ITEMS)?;
+        for _k in 0..ITEMS {
+            items.push(item.clone()?)?;
         }
-        Ok(Table { chunks })
-    }
-
-    /// The same chunks once more.
-    pub(crate) fn share(&self) -> Result<Table<C>, AllocError>
-        ensures { IfOk result (λ table. table_chunks table ≡ table_chunks self.now) }
-    {
-        let chunks = self.chunks.clone()?;
-        Ok(Table { chunks })
+        match items.try_into() {
+            Ok(items) => Ok(Table { items }),
+            Err(_) => unreachable!(),
+        }
     }
 }
 
-/// The same tables once more: it costs a counter for each.
-pub(crate) fn share<C: Drop>(tables: &Vec<Arc<Table<C>>>) -> Result<Vec<Arc<Table<C>>>, AllocError>
-    ensures chunks { IfOk result (λ same. chunks_of same.items ≡ chunks_of tables.now.items) }
-    ensures count { IfOk result (λ same. length same.items ≡ length tables.now.items) }
-{
-    Ok(tables.clone()?)
+impl<C: Drop> Clone for Table<C> {
+    ghost is_clone = { λ table copy. table_items copy ≡ table_items table };
+
+    fn clone(&self) -> Result<Table<C>, AllocError> {
+        let items = self.items.clone()?;
+        Ok(Table { items })
+    }
 }
 
-/// The k-th chunk of these tables, counted from 0.
+/// The k-th item of these tables, counted from 0.
 #[inline(always)]
-pub(crate) fn chunk_at<C: Drop>(tables: &[Arc<Table<C>>], k: usize) -> &C
-    requires k { k < length tables.now * 64 }
-    ensures { (d : C) → slice_index_or (chunks_of tables.now) k d ≡ result.now }
+pub(crate) fn item_at<C: Drop>(tables: &[Arc<Table<Table<C>>>], k: usize) -> &C
+    requires k { k < length tables.now * 4096 }
+    ensures { (d : C) → slice_index_or (items_of tables.now) k d ≡ result.now }
 {
-    &tables[k / CHUNKS].chunks[k % CHUNKS]
+    &tables[k / NESTED].items[k / ITEMS % ITEMS].items[k % ITEMS]
 }
 
-/// Replaces a chunk of a table: in place, where nobody else has the table, else in a copy of it.
-pub(crate) fn replace<C: Drop>(
-    alloc: Global,
-    table: &mut Arc<Table<C>>,
-    k: usize,
-    chunk: Arc<C>,
-) -> Result<(), AllocError>
+/// Replaces an item of a table: in place, where nobody else has the table, else in a copy of it.
+fn put<C: Drop>(table: &mut Arc<Table<C>>, k: usize, item: Arc<C>) -> Result<(), AllocError>
     requires k { k < 64 }
-    ensures ok { OnOk result (table_chunks table.new.value ≡ slice_set (table_chunks table.old.value) k chunk.value) }
-    ensures err { OnErr result (table.new ≡ table.old) }
+    ensures ok { OnOk result (table_items table.new.value ≡ slice_set (table_items table.old.value) k item.value) }
+    ensures err { OnErr result (table_items table.new.value ≡ table_items table.old.value) }
 {
-    if let Some(own) = Arc::get_mut(table) {
-        own.chunks[k] = chunk;
-        return Ok(());
-    }
-    let mut changed = table.share()?;
-    changed.chunks[k] = chunk;
-    *table = Arc::new(alloc, changed)?;
+    Arc::make_mut(table)?.items[k] = item;
     Ok(())
 }
 
-/// Lays a chunk behind the first k ones of these tables.
+/// Replaces an item of a table's tables: in place, where nobody else has the table and the item's own, else in copies of what others have.
+pub(crate) fn put_nested<C: Drop>(
+    table: &mut Arc<Table<Table<C>>>,
+    k: usize,
+    item: Arc<C>,
+) -> Result<(), AllocError>
+    requires k { k < 4096 }
+    ensures ok { OnOk result (nested_items table.new.value ≡ slice_set (nested_items table.old.value) k item.value) }
+    ensures err { OnErr result (nested_items table.new.value ≡ nested_items table.old.value) }
+{
+    put(&mut Arc::make_mut(table)?.items[k / ITEMS], k % ITEMS, item)
+}
+
+/// Lays an item behind the first k ones of these tables.
 pub(crate) fn lay<C: Drop>(
     alloc: Global,
-    tables: &mut Vec<Arc<Table<C>>>,
+    tables: &mut Vec<Arc<Table<Table<C>>>>,
     k: usize,
-    chunk: Arc<C>,
+    item: Arc<C>,
 ) -> Result<(), AllocError>
-    requires k { k ≤ length tables.old.items * 64 }
-    ensures ok { OnOk result (take (k + 1) (chunks_of tables.new.items) ≡ take k (chunks_of tables.old.items) ++ chunk.value ∷ []) }
-    ensures room { OnOk result (k + 1 ≤ length tables.new.items * 64) }
-    ensures err { OnErr result (tables.new.items ≡ tables.old.items) }
+    requires k { k ≤ length tables.old.items * 4096 }
+    ensures ok { OnOk result (take (k + 1) (items_of tables.new.items) ≡ take k (items_of tables.old.items) ++ item.value ∷ []) }
+    ensures room { OnOk result (k + 1 ≤ length tables.new.items * 4096) }
+    ensures err { OnErr result (items_of tables.new.items ≡ items_of tables.old.items) }
+    ensures kept { OnErr result (length tables.new.items ≡ length tables.old.items) }
 {
-    if k / CHUNKS < tables.len() {
-        return replace(alloc, &mut tables[k / CHUNKS], k % CHUNKS, chunk);
+    if k / NESTED < tables.len() {
+        return put_nested(&mut tables[k / NESTED], k % NESTED, item);
     }
-    let table = Table::filled(alloc, &chunk)?;
-    tables.push(Arc::new(alloc, table)?)?;
+    let table = Arc::new(alloc, Table::filled(alloc, &item)?)?;
+    let table = Arc::new(alloc, Table::filled(alloc, &table)?)?;
+    tables.push(table)?;
     Ok(())
 }

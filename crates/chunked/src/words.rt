@@ -1,15 +1,15 @@
-ghost use Rattle.std.specs.Prelude.{◌≡◌, ◌≤◌, ◌<◌, length, OnOk, OnErr, flat_map, slice_set, take};
-ghost use Rattle.chunked.specs.Tables.{table_chunks};
+ghost use Rattle.std.specs.Prelude.{◌≡◌, ◌≤◌, length, take};
 
-use crate::chunks::CHUNK;
+use crate::lists::SharedList;
+use crate::pieces::{CHUNK, Piece};
 use crate::table::Table;
-use crate::tables::{TABLE, chunk_at, lay, share};
+use crate::tables::item_at;
 use std::alloc::{AllocError, Global};
 use std::marker::Model;
 use std::sync::Arc;
 
 /// The words of one chunk. Where the array ends in it, whatever stands behind its end is of no account.
-#[derive(Drop)]
+#[derive(Clone, Copy, Drop)]
 pub(crate) struct WordChunk {
     pub(crate) words: [u32; 1024],
     ghost full: { length words ≡ 1024 },
@@ -27,86 +27,52 @@ fn beginning(words: &[u32]) -> WordChunk
     WordChunk { words: all }
 }
 
-/// Replaces a word of a chunk: in place, where nobody else has the chunk, else in a copy of it.
-fn put_in_chunk(
-    alloc: Global,
-    chunk: &mut Arc<WordChunk>,
-    place: usize,
-    word: u32,
-) -> Result<(), AllocError>
-    requires place { place < 1024 }
-    ensures ok { OnOk result (chunk.new.value.words ≡ slice_set chunk.old.value.words place word) }
-    ensures err { OnErr result (chunk.new ≡ chunk.old) }
-{
-    if let Some(own) = Arc::get_mut(chunk) {
-        own.words[place] = word;
-        return Ok(());
+impl Piece for WordChunk {
+    type Item = u32;
+
+    ghost items = { λ chunk. chunk.words };
+
+    ghost full = { λ chunk. chunk.full };
+
+    fn put(piece: &mut Arc<WordChunk>, place: usize, item: u32) -> Result<(), AllocError> {
+        Arc::make_mut(piece)?.words[place] = item;
+        Ok(())
     }
-    let mut words = chunk.words;
-    words[place] = word;
-    *chunk = Arc::new(alloc, WordChunk { words })?;
-    Ok(())
 }
 
-/// Replaces a word of a table: in place, where nobody else has the table and the word's chunk, else in a copy of what others have.
-fn put(
-    alloc: Global,
-    table: &mut Arc<Table<WordChunk>>,
-    place: usize,
-    word: u32,
-) -> Result<(), AllocError>
-    requires place { place < 65536 }
-    ensures ok { OnOk result (flat_map (λ chunk. chunk.words) (table_chunks table.new.value) ≡ slice_set (flat_map (λ chunk. chunk.words) (table_chunks table.old.value)) place word) }
-    ensures err { OnErr result (table_chunks table.new.value ≡ table_chunks table.old.value) }
-{
-    if let Some(own) = Arc::get_mut(table) {
-        return put_in_chunk(alloc, &mut own.chunks[place / CHUNK], place % CHUNK, word);
-    }
-    let mut changed = table.share()?;
-    put_in_chunk(
-        alloc,
-        &mut changed.chunks[place / CHUNK],
-        place % CHUNK,
-        word,
-    )?;
-    *table = Arc::new(alloc, changed)?;
-    Ok(())
-}
-
-/// Words of 4 bytes in chunks of 1,024, and these in tables of 64, which versions of them share, as a `ChunkedArray` does.
+/// Words of 4 bytes in chunks of 1,024, which versions of them share, as those of a `ChunkedArray` do.
 #[derive(Drop)]
 pub struct ChunkedWords {
     len: usize,
-    tables: Vec<Arc<Table<WordChunk>>>,
+    chunks: SharedList<WordChunk>,
 }
 
 impl Model for ChunkedWords {
-    ghost use Rattle.std.specs.Prelude.{ℕ, ◌≤◌, ◌*◌, List, take, length, flat_map};
-    ghost use Rattle.chunked.specs.Tables.{chunks_of};
+    ghost use Rattle.std.specs.Prelude.{ℕ, ◌≡◌, ◌+◌, ◌/◌, List, take, length, flat_map};
 
     ghost Value = { List ℕ };
 
-    ghost view = { λ a. take a.len (flat_map (λ chunk. chunk.words) (chunks_of a.tables.items)) };
+    ghost view = { λ a. take a.len (flat_map (λ chunk. chunk.words) a.chunks) };
 
-    ghost invariant = { λ a. a.len ≤ length a.tables.items * 65536 };
+    ghost invariant = { λ a. length a.chunks ≡ (a.len + 1023) / 1024 };
 }
 
 /// Chunked words as they are read again and again.
 #[derive(Drop)]
 pub struct WordTable<'a> {
     len: usize,
-    tables: &'a [Arc<Table<WordChunk>>],
+    tables: &'a [Arc<Table<Table<WordChunk>>>],
 }
 
 impl<'a> Model for WordTable<'a> {
     ghost use Rattle.std.specs.Prelude.{ℕ, ◌≤◌, ◌*◌, List, take, length, flat_map};
-    ghost use Rattle.chunked.specs.Tables.{chunks_of};
+    ghost use Rattle.chunked.specs.Tables.{items_of};
 
     ghost Value = { List ℕ };
 
-    ghost view = { λ a. take a.len (flat_map (λ chunk. chunk.words) (chunks_of a.tables.now)) };
+    ghost view = { λ a. take a.len (flat_map (λ chunk. chunk.words) (items_of a.tables.now)) };
 
-    ghost invariant = { λ a. a.len ≤ length a.tables.now * 65536 };
+    ghost invariant = { λ a. a.len ≤ length a.tables.now * 4194304 };
 }
 
 impl WordTable<'_> {
@@ -126,7 +92,7 @@ impl WordTable<'_> {
         requires place { place < length self.now }
         ensures word { (d : ℕ) → slice_index_or self.now place d ≡ result }
     {
-        chunk_at(self.tables, place / CHUNK).words[place % CHUNK]
+        item_at(self.tables, place / CHUNK).words[place % CHUNK]
     }
 }
 
@@ -137,8 +103,8 @@ impl ChunkedWords {
     pub fn with_capacity(alloc: Global, count: usize) -> Result<ChunkedWords, AllocError>
         ensures { IfOk result (λ words. words ≡ []) }
     {
-        let tables = Vec::with_capacity(alloc, count.div_ceil(TABLE))?;
-        Ok(ChunkedWords { len: 0, tables })
+        let chunks = SharedList::with_capacity(alloc, count.div_ceil(CHUNK))?;
+        Ok(ChunkedWords { len: 0, chunks })
     }
 
     /// The number of words.
@@ -155,7 +121,7 @@ impl ChunkedWords {
     {
         WordTable {
             len: self.len,
-            tables: &self.tables,
+            tables: self.chunks.tables(),
         }
     }
 
@@ -165,17 +131,17 @@ impl ChunkedWords {
         requires place { place < length self.now }
         ensures word { (d : ℕ) → slice_index_or self.now place d ≡ result }
     {
-        chunk_at(&self.tables, place / CHUNK).words[place % CHUNK]
+        self.chunks.get(place / CHUNK).words[place % CHUNK]
     }
 
-    /// The same words once more: it costs a counter for each table.
+    /// The same words once more: it costs a counter for each 4,096 chunks.
     pub fn share(&self) -> Result<ChunkedWords, AllocError>
         ensures { IfOk result (λ shared. shared ≡ self.now) }
     {
-        let tables = share(&self.tables)?;
+        let chunks = self.chunks.share()?;
         Ok(ChunkedWords {
             len: self.len,
-            tables,
+            chunks,
         })
     }
 
@@ -186,8 +152,7 @@ impl ChunkedWords {
         ensures ok { OnOk result (self.new ≡ slice_set self.old place word) }
         ensures err { OnErr result (self.new ≡ self.old) }
     {
-        let alloc = *self.tables.allocator();
-        put(alloc, &mut self.tables[place / TABLE], place % TABLE, word)
+        self.chunks.put(place, word)
     }
 
     /// Adds the next words, 1 to 1,024, behind words that fill their chunks. The one error is want of memory, and the words are as they were.
@@ -198,9 +163,10 @@ impl ChunkedWords {
         ensures ok { OnOk result (self.new ≡ self.old ++ words.now) }
         ensures err { OnErr result (self.new ≡ self.old) }
     {
-        let alloc = *self.tables.allocator();
-        let chunk = Arc::new(alloc, beginning(words))?;
-        lay(alloc, &mut self.tables, self.len / CHUNK, chunk)?;
+        if words.is_empty() {
+            return Ok(());
+        }
+        self.chunks.push(beginning(words))?;
         self.len += words.len();
         Ok(())
     }

@@ -1,7 +1,7 @@
 use Rattle.std.proofs.Common.{◌≡◌, ◌∙◌, ◌<◌, ◌+◌, ◌*◌, ◌++◌, length, take, refl, sym, ap, ap₂, arith}
 use Rattle.std.proofs.Math.Seq.{take-add}
 use Rattle.std.proofs.lemmas.List.{length-take-le, take_all}
-use Rattle.chunked.proofs.OfTables.{part_next, part_size}
+use Rattle.chunked.proofs.OfChunks.{part_next, part_size}
 use Rattle.chunked.proofs.arrays.ChunkedArray.from_slice.Goals as goal
 
 pub loop-k-init : goal.loop-k-init

@@ -2,4 +2,4 @@ use Rattle.std.proofs.Common.{◌≡◌, map, replicate}
 use Rattle.chunked.proofs.table.Table.filled.Given as goal
 
 abbrev pub invariant-loop-k : goal.invariant-loop-k
-invariant-loop-k g l = map (λ chunk. chunk.value) l.chunks.items ≡ replicate l._k l.chunk.value
+invariant-loop-k g l = map (λ item. item.value) l.items.items ≡ replicate l._k l.item.value

@@ -1,6 +1,6 @@
 use Rattle.std.proofs.Common.{sym}
-use Rattle.chunked.proofs.OfTables.{words_of, full_words, long}
+use Rattle.chunked.proofs.OfWords.{long}
 use Rattle.chunked.proofs.words.WordTable.len.Goals as goal
 
 pub returns : goal.returns
-returns c = rw (← c.self.view_is) (sym (long words_of full_words c.self.inside.tables.now c.self.inside.len c.self.invariant))
+returns c = rw (← c.self.view_is) (sym (long c.self.inside.tables.now c.self.inside.len c.self.invariant))

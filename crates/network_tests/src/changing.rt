@@ -1,22 +1,32 @@
 use fixtures::six;
 use roadnet::{Command, Group, Refusal};
 use shared_network::SharedNetwork;
-use snapshot::{ArcIndex, Part, Snapshot, changed_arcs, tails_of};
+use snapshot::{ArcIndex, Leg, Part, Snapshot, changed_arcs, tails_of};
 use std::alloc::Global;
 use std::array::from_ref;
 
-/// How many legs two snapshots have of the nodes up to 6, and whether they are the same.
-fn compare(one: &Snapshot, other: &Snapshot) -> (usize, bool) {
+/// Whether two lists of legs are the same.
+fn are_same(legs: &[Leg], others: &[Leg]) -> bool {
+    legs == others
+}
+
+/// How many legs of one kind two snapshots have of the nodes up to 6, and whether they are the same.
+fn compare_part(one: &Snapshot, other: &Snapshot, part: Part) -> (usize, bool) {
     let mut count = 0usize;
     let mut same = true;
     for node in 0..7 {
-        for part in [Part::Light, Part::Heavy] {
-            let (legs, others) = (one.legs(node, part), other.legs(node, part));
-            count = count.saturating_add(legs.len());
-            same = same && legs == others;
-        }
+        let (legs, others) = (one.legs(node, part), other.legs(node, part));
+        count = count.saturating_add(legs.len());
+        same = same && are_same(legs, others);
     }
     (count, same)
+}
+
+/// The same of all legs.
+fn compare(one: &Snapshot, other: &Snapshot) -> (usize, bool) {
+    let (light, light_same) = compare_part(one, other, Part::Light);
+    let (heavy, heavy_same) = compare_part(one, other, Part::Heavy);
+    (light.saturating_add(heavy), light_same && heavy_same)
 }
 
 /// How many arcs a group changes, how many nodes they leave, how many legs the snapshot after it has, and whether one made anew has the same.

@@ -1,8 +1,6 @@
-//! Tests of networks, arrays in chunks, arcs grouped by tail, stored networks that are brought to a new map, and queues of nodes, by their public calls.
+//! Tests of networks, arcs grouped by tail, stored networks that are brought to a new map, and queues of nodes, by their public calls.
 #![tactic(auto)]
 
-#[cfg(test)]
-mod arrays;
 #[cfg(test)]
 mod changing;
 #[cfg(test)]

@@ -95,7 +95,7 @@ fn requests_as_told<T: Team>(alloc: Global, team: &T) -> Result<bool, Refusal> {
 #[test]
 fn requests_of_teams(rt: HostRuntime) {
     assert!(rt; requests_as_told(rt.alloc(), &Solo).expect(&rt, "memory"));
-    for chunk in [1, 3, CHUNK] {
+    for &chunk in &[1, 3, CHUNK] {
         let crew = Crew::new(&rt, chunk);
         assert!(rt;
             requests_as_told(rt.alloc(), &crew).expect(&rt, "memory"),

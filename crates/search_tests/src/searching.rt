@@ -104,7 +104,7 @@ fn has_row(alloc: Global, worked: Worked) -> Result<bool, Refusal> {
     let (nodes, arcs, closed, source, want) = worked;
     let network = network_of(alloc, nodes, arcs, closed)?;
     let mut same = is(&plain_of(alloc, &network, source)?, want);
-    for delta in [1, 5, 2147483647] {
+    for &delta in &[1, 5, 2147483647] {
         same = same && is(&row_by(alloc, &network, source, delta, &Solo)?, want);
     }
     Ok(same)

@@ -219,7 +219,7 @@ fn agrees_where_changed(alloc: Global, at: usize, byte: u8) -> Result<bool, Allo
 fn fronts_and_changed_bytes(rt: HostRuntime) -> Result<(), Fail> {
     for n in 0..SIX.len() {
         assert!(rt; agrees(rt.alloc(), &SIX[..n])?, "{n}");
-        for byte in [0, 10, 45, 255] {
+        for &byte in &[0, 10, 45, 255] {
             assert!(rt; agrees_where_changed(rt.alloc(), n, byte)?, "{byte} at {n}");
         }
     }

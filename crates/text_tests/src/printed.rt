@@ -71,7 +71,7 @@ fn what_is_flushed(rt: HostRuntime) {
         sent: Vec::new(rt.alloc()),
     };
     let mut writer = CountedWriter::new(&mut out);
-    for line in [b"ok 1\n".as_slice(), b"v 1\n", b"no 22\n"] {
+    for &line in &[b"ok 1\n".as_slice(), b"v 1\n", b"no 22\n"] {
         assert!(rt; writer.write_all(line) == Ok(()) && writer.flush() == Ok(()));
     }
     assert!(rt; writer.write_all(b"d 1 6 15\n") == Ok(()));

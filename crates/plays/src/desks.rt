@@ -47,6 +47,11 @@ fn call_desk<N: Naming + Send + Sync + 'static, R: CaseRuntime>(
     Ok(closed)
 }
 
+/// Adds a list of numbers with its name.
+fn put_numbers(name: &str, numbers: &[u64], out: &mut Vec<u8>) -> Result<(), Refusal> {
+    write!(out, "{name} {numbers:?}").or(Err(Refusal::OutOfMemory))
+}
+
 /// Adds what the gate noted until the threads had ended.
 fn put_noted<R: Wait>(
     rt: &R,
@@ -54,8 +59,8 @@ fn put_noted<R: Wait>(
     board: &Board,
     out: &mut Vec<u8>,
 ) -> Result<(), Refusal> {
-    let flushes = board.flush.numbers(rt, alloc)?;
-    let steps = board.step.numbers(rt, alloc)?;
+    put_numbers("flushes", &board.flush.numbers(rt, alloc)?, out)?;
+    put_numbers(", steps", &board.step.numbers(rt, alloc)?, out)?;
     let late = if board.has_expired() {
         ", held too long"
     } else {
@@ -66,7 +71,7 @@ fn put_noted<R: Wait>(
     } else {
         ""
     };
-    writeln!(out, "flushes {flushes:?}, steps {steps:?}{late}{ended}").or(Err(Refusal::OutOfMemory))
+    writeln!(out, "{late}{ended}").or(Err(Refusal::OutOfMemory))
 }
 
 /// Plays a case once.

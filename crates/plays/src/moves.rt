@@ -7,7 +7,7 @@ use dimacs::read_command;
 use disk::Disk;
 use roadnet::{Command, Group, Refusal};
 use rows::Reply;
-use stages::{Board, Kept, SHORTER, all_readers, callers, wake};
+use stages::{Board, Kept, SHORTER};
 use std::alloc::Global;
 use std::collections::VecDeque;
 use std::io::Write;
@@ -179,12 +179,12 @@ impl<N: Naming> Caller<N> {
         Ok(held.ticket.ticket().number)
     }
 
-    /// Its own reader, which is made where there is none yet.
-    fn reader<S: Served<Naming = N>>(&mut self, desk: &Handle<S>) -> Result<Reader<N>, Refusal> {
-        match self.reader.take() {
-            Some(reader) => Ok(reader),
-            None => desk.reader(),
+    /// Makes its own reader, where there is none yet.
+    fn make_reader<S: Served<Naming = N>>(&mut self, desk: &Handle<S>) -> Result<(), Refusal> {
+        if self.reader.is_none() {
+            self.reader = Some(desk.reader()?);
         }
+        Ok(())
     }
 
     /// Waits for a view with the command of the oldest ticket, of which its own reader learns, and looks.
@@ -195,13 +195,14 @@ impl<N: Naming> Caller<N> {
         desk: &Handle<S>,
         out: &mut Vec<u8>,
     ) -> Result<(), Refusal> {
-        let mut reader = self.reader(desk)?;
-        if let Some(held) = self.tickets.front() {
-            reader.learn(&desk.wait_shown(&held.ticket)?);
+        self.make_reader(desk)?;
+        match (&mut self.reader, self.tickets.front()) {
+            (Some(reader), Some(held)) => {
+                reader.learn(&desk.wait_shown(&held.ticket)?);
+                look(rt, alloc, reader, out)
+            }
+            _ => Err(Refusal::NoTask),
         }
-        let told = look(rt, alloc, &mut reader, out);
-        self.reader = Some(reader);
-        told
     }
 
     /// Looks by its own reader until this version is shown, and once more.
@@ -213,13 +214,14 @@ impl<N: Naming> Caller<N> {
         version: u64,
         out: &mut Vec<u8>,
     ) -> Result<(), Refusal> {
-        let mut reader = self.reader(desk)?;
-        let told = match await_version(rt, &mut reader, version) {
-            Ok(()) => look(rt, alloc, &mut reader, out),
-            Err(refusal) => Err(refusal),
-        };
-        self.reader = Some(reader);
-        told
+        self.make_reader(desk)?;
+        match &mut self.reader {
+            Some(reader) => {
+                await_version(rt, reader, version)?;
+                look(rt, alloc, reader, out)
+            }
+            None => Err(Refusal::NoTask),
+        }
     }
 }
 
@@ -272,6 +274,21 @@ fn decline<S: Served>(desk: &Handle<S>, command: Command) -> Result<u64, Refusal
 fn width<S: Served>(desk: &Handle<S>) -> Result<u64, Refusal> {
     let mut reader = desk.reader()?;
     Ok(u64::from(reader.pinned().width()))
+}
+
+/// As many readers as there are places. Told is for what one more is refused; behind that one goes, and another comes.
+fn all_readers<S: Served>(alloc: Global, desk: &Handle<S>) -> Result<u64, Refusal> {
+    let mut readers = Vec::new(alloc);
+    for _ in 0..64u32 {
+        readers.push(desk.reader()?).or(Err(Refusal::OutOfMemory))?;
+    }
+    let refused = match desk.reader() {
+        Ok(_) => Ok(65),
+        Err(refusal) => Err(refusal),
+    };
+    drop(readers.pop());
+    desk.reader()?;
+    refused
 }
 
 /// Adds a call's answer, a number or a refusal.
@@ -352,8 +369,6 @@ fn play_line<S: ServedApart>(
         "learn" => caller.learn(rt, alloc, called, out),
         "watch" => caller.watch(rt, alloc, called, number, out),
         "width" => put(width(called), out),
-        "wake" => put(wake(rt, alloc, called, board), out),
-        "callers" => put(callers(rt, alloc, called), out),
         "readers" => put(all_readers(alloc, called), out),
         "halt" => {
             desk.halt();

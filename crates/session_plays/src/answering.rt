@@ -12,7 +12,7 @@ use dimacs::Counted;
 use disk::Disk;
 use printing::{CountedWriter, Failed};
 use roadnet::Refusal;
-use sessions::{Answering, Copies, LastLine, Terms, serve};
+use sessions::{Answering, Copies, LastLine, Session, Terms, serve};
 use shared_network::SharedNetwork;
 use stages::{CaseRuntime, Kept, OfCase, Watch, gate_of, left_by, setup_of, store_of};
 use std::alloc::Global;
@@ -147,6 +147,33 @@ struct Ended {
     closed: Closed<Kept>,
 }
 
+/// A session with a desk: its outcome, how many calls of the reader and of the writer failed, and what it has of the desk.
+fn serve_lines<S: Served>(
+    rt: &S::Runtime,
+    alloc: Global,
+    desk: &Handle<S>,
+    head: Head<'_>,
+    copies: &Looked,
+    input: &mut BufReader<CarefulReader<'_>>,
+    output: &mut CarefulWriter<'_>,
+) -> Result<(Result<(), Failed>, [u64; 2], Session<S::Naming>), Refusal> {
+    let _others = others_of(alloc, desk, head)?;
+    if head.has("halted") {
+        desk.halt();
+    }
+    let mut reader = Counted::new(input);
+    let mut writer = CountedWriter::new(output);
+    let answering = Answering::new();
+    let terms = Terms {
+        last_line: LastLine::Taken,
+        answering: &answering,
+        copies,
+    };
+    let (outcome, session) = serve(rt, alloc, desk, terms, &mut reader, &mut writer);
+    let failed_calls = [reader.failed_calls(), writer.failed_writes()];
+    Ok((outcome, failed_calls, session))
+}
+
 /// A session over a store. The desk is closed behind it.
 fn session_over<N: Naming + Send + Sync + 'static, R: CaseRuntime>(
     rt: R,
@@ -167,21 +194,9 @@ fn session_over<N: Naming + Send + Sync + 'static, R: CaseRuntime>(
     requires came_tidy { N.came_tidy → CameTidy ⟦<Kept as Disk>⟧.honest ⟦<Kept as Disk>⟧.content store.given }
 {
     let desk: Desk<OfCase<N, R>> = Desk::start(rt, alloc, history, store, gate, setup)?;
-    let _others = others_of(alloc, desk.handle(), head)?;
-    if head.has("halted") {
-        desk.halt();
-    }
-    let mut reader = Counted::new(input);
-    let mut writer = CountedWriter::new(output);
-    let answering = Answering::new();
-    let terms = Terms {
-        last_line: LastLine::Taken,
-        answering: &answering,
-        copies,
-    };
-    let (outcome, session) = serve(&rt, alloc, desk.handle(), terms, &mut reader, &mut writer);
-    let failed_calls = [reader.failed_calls(), writer.failed_writes()];
+    let served = serve_lines(&rt, alloc, desk.handle(), head, copies, input, output);
     let closed = desk.close()?;
+    let (outcome, failed_calls, session) = served?;
     Ok(Ended {
         outcome,
         failed_calls,

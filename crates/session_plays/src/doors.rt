@@ -14,7 +14,7 @@ use printing::Failed;
 use roadnet::Refusal;
 use sessions::{Door, NoCopies, Visits, serve_door};
 use stages::{CaseRuntime, Kept, OfCase, Watch, gate_of, left_by, reaches, setup_of, store_of};
-use std::alloc::Global;
+use std::alloc::{AllocError, Global};
 use std::io::{self, BufReader, Write};
 use std::marker::Brand;
 use std::sync::atomic::{AtomicU64, Ordering};
@@ -190,18 +190,22 @@ fn put_came(came: &Came, are_told: bool, out: &mut Vec<u8>) -> io::Result<()> {
 }
 
 /// Nothing has come of so many doors yet.
-fn told_by(alloc: Global, count: usize) -> Result<Arc<Told>, Refusal> {
+fn nothing_came(alloc: Global, count: usize) -> Result<Vec<Came>, AllocError> {
     let mut came = Vec::new(alloc);
     for _ in 0..count {
-        let none = Came {
+        came.push(Came {
             answers: Vec::new(alloc),
             well: 0,
             unread: 0,
-        };
-        came.push(none).or(Err(Refusal::OutOfMemory))?;
+        })?;
     }
+    Ok(came)
+}
+
+/// What so many doors tell, of which nothing has come yet.
+fn told_by(alloc: Global, count: usize) -> Result<Arc<Told>, Refusal> {
     let told = Told {
-        came: Mutex::new(came),
+        came: Mutex::new(nothing_came(alloc, count)?),
         ended: AtomicU64::new(0),
     };
     Arc::new(alloc, told).or(Err(Refusal::OutOfMemory))

@@ -19,6 +19,7 @@
 //! | `delta N`, `workers N`, `patience N` | the desk's setup, with its patience in milliseconds |
 //! | `disk-fails N` | the disk's call of this number fails, counted from the opening on |
 //! | `flush-misses N`, `task-misses N`, `step-misses N` | so many of these calls of the gate find no memory |
+//! | `slow-flush N` | a flush takes so many milliseconds longer |
 //! | `stop PICK` | the disk that is left is stopped with this pick before it is opened |
 //! | `left`, `told` | of a `session` it is told what is left, of `doors` what their clients are answered |
 //! | `halted`, `crowded` | sessions find the desk halted, or with as many readers as it may have |
@@ -39,7 +40,7 @@ use std::process::ExitCode;
 
 /// The options of both calls: behind one that ends with `=` stands its value.
 const OPTIONS: &str =
-    "network landmarks= room= pages= version= delta= workers= patience= flush-misses= task-misses= step-misses= stop= halted crowded alone copies left clients= count= asking= told";
+    "network landmarks= room= pages= version= delta= workers= patience= slow-flush= flush-misses= task-misses= step-misses= stop= halted crowded alone copies left clients= count= asking= told";
 
 /// The calls of the cases.
 const CALLS: &[Call] = &[("session", OPTIONS), ("doors", OPTIONS)];

@@ -106,11 +106,10 @@ pub struct Board {
     /// For how many milliseconds no memory is found, from when on.
     short_for: u64,
     since: Option<Instant>,
+    /// How many milliseconds a flush takes longer.
+    slow_flush: u64,
     /// How often the builder gave up.
     given_up: AtomicU64,
-    /// How many callers are about to wait, and how many have come back.
-    pub waiting: AtomicU64,
-    pub returned: AtomicU64,
 }
 
 /// Nothing is counted yet.
@@ -129,9 +128,8 @@ impl Board {
             workers: [none(), none(), none(), none(), none(), none()],
             short_for: head.number_of("short-for").unwrap_or(0),
             since: Instant::now(rt).ok(),
+            slow_flush: head.number_of("slow-flush").unwrap_or(0),
             given_up: none(),
-            waiting: none(),
-            returned: none(),
         }
     }
 
@@ -209,6 +207,7 @@ impl<R: Wait + Clock> Gate for Watch<R> {
 
     fn before_flush(&self, durable: u64) -> bool {
         let millis = self.board.millis(&self.rt);
+        thread::sleep(&self.rt, Duration::from_millis(self.board.slow_flush));
         self.board.flush.pass(&self.rt, durable, millis) && millis >= self.board.short_for
     }
 

@@ -147,10 +147,16 @@ fn add_rows<F: Fn(Global, Given<'_, '_>, &mut Vec<u8>) -> io::Result<()>>(
     Ok(())
 }
 
+/// The options of a call, if it has this name.
+fn options_if(call: &Call, name: &str) -> Option<&'static str> {
+    let &(own, options) = call;
+    if own == name { Some(options) } else { None }
+}
+
 /// The options of a call, if there is one of this name.
 fn options_of(calls: &[Call], name: &str) -> Option<&'static str> {
-    for &(call, options) in calls {
-        if call == name {
+    for call in calls {
+        if let Some(options) = options_if(call, name) {
             return Some(options);
         }
     }

@@ -41,7 +41,7 @@ impl<T: Copy + Drop> ChunkedArray<T> {
         Ok(array)
     }
 
-    /// Adds the next items, 1 to 1,024, behind items that fill their chunks. The one error is want of memory, and the array is as it was.
+    /// Adds the next items, 0 to 1,024, behind items that fill their chunks. The one error is want of memory, and the array is as it was.
     fn append(&mut self, alloc: Global, items: &[T]) -> Result<(), AllocError>
         requires whole { length self.old % 1024 ≡ 0 }
         requires room { length self.old + length items.now < 2 ^ 64 }

@@ -155,7 +155,7 @@ impl ChunkedWords {
         self.chunks.put(place, word)
     }
 
-    /// Adds the next words, 1 to 1,024, behind words that fill their chunks. The one error is want of memory, and the words are as they were.
+    /// Adds the next words, 0 to 1,024, behind words that fill their chunks. The one error is want of memory, and the words are as they were.
     pub fn append(&mut self, words: &[u32]) -> Result<(), AllocError>
         requires whole { length self.old % 1024 ≡ 0 }
         requires room { length self.old < 2 ^ 48 }

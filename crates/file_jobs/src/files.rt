@@ -119,6 +119,20 @@ pub fn told_output<'a, R: AllocGlobal + Clock + Eprint + Print>(
     buffered_writer(rt.alloc(), TellingWriter::new(progress, OUTPUT, output))
 }
 
+/// What a job has opened, and behind it the standard output for many lines.
+pub fn beside_output<'a, T: Drop, R: AllocGlobal + Clock + Eprint + Print>(
+    opened: T,
+    rt: &'a R,
+    progress: &'a Progress<'a, R>,
+) -> Result<(T, ToldOutput<'a, R>), Failed>
+    ensures { IfErr result (λ failed. failed ≡ Failed.Code Refusal.OutOfMemory) }
+{
+    match told_output(rt, progress) {
+        Ok(output) => Ok((opened, output)),
+        Err(failed) => Err(failed),
+    }
+}
+
 /// The failure for a file that cannot be opened: fault 10 of line 0.
 pub fn unopened(which: u8) -> Failed
     ensures { result ≡ unopened which }

@@ -6,7 +6,7 @@ ghost use Rattle.words.specs.Words.{IsJournal};
 ghost use Rattle.printing.specs.Widths.{told_width};
 
 use crate::files::{
-    open_table, open_text, open_texts, standard_input, standard_output, told_output,
+    beside_output, open_table, open_text, open_texts, standard_input, standard_output,
 };
 use dimacs::Counted;
 use printing::{CountedWriter, Done, Failed};
@@ -49,8 +49,8 @@ pub fn once<R: AllocGlobal + Clock + Eprint + Files + Input + Print + Threads>(
     requires { ForSome delta IsWidth }
     ensures { IfOk result (λ done. told_width done ≡ delta) }
 {
-    let mut gr = open_text(rt, progress, 0, network)?;
-    let mut writer = told_output(rt, progress)?;
+    let gr = open_text(rt, progress, 0, network)?;
+    let (mut gr, mut writer) = beside_output(gr, rt, progress)?;
     once_text(
         rt,
         rt.alloc(),
@@ -74,8 +74,8 @@ pub fn route<R: AllocGlobal + Clock + Eprint + Files + Input + Print + Threads>(
     requires { ForSome delta IsWidth }
     ensures { IfOk result (λ done. told_width done ≡ delta) }
 {
-    let mut gr = open_text(rt, progress, 0, network)?;
-    let mut writer = told_output(rt, progress)?;
+    let gr = open_text(rt, progress, 0, network)?;
+    let (mut gr, mut writer) = beside_output(gr, rt, progress)?;
     route_text(
         rt,
         rt.alloc(),
@@ -99,8 +99,8 @@ pub fn find_reached<R: AllocGlobal + Clock + Eprint + Files + Input + Print + Th
     requires { ForSome delta IsWidth }
     ensures { IfOk result (λ done. told_width done ≡ delta) }
 {
-    let mut gr = open_text(rt, progress, 0, network)?;
-    let mut writer = told_output(rt, progress)?;
+    let gr = open_text(rt, progress, 0, network)?;
+    let (mut gr, mut writer) = beside_output(gr, rt, progress)?;
     reach_text(
         rt,
         rt.alloc(),
@@ -123,8 +123,8 @@ fn listed_pairs<R: AllocGlobal + Clock + Eprint + Files + Input + Print + Thread
     requires { ForSome delta IsWidth }
     ensures { IfOk result (λ done. told_width done ≡ delta) }
 {
-    let (mut gr, mut p2p) = open_texts(rt, progress, network, pairs)?;
-    let mut writer = told_output(rt, progress)?;
+    let texts = open_texts(rt, progress, network, pairs)?;
+    let ((mut gr, mut p2p), mut writer) = beside_output(texts, rt, progress)?;
     batch_text(
         rt,
         rt.alloc(),
@@ -147,8 +147,8 @@ fn table_of_pairs<R: AllocGlobal + Clock + Eprint + Files + Input + Print + Thre
     requires { ForSome delta IsWidth }
     ensures { IfOk result (λ done. told_width done ≡ delta) }
 {
-    let (mut gr, mut from, mut to) = open_table(rt, progress, network, sources, targets)?;
-    let mut writer = told_output(rt, progress)?;
+    let texts = open_table(rt, progress, network, sources, targets)?;
+    let ((mut gr, mut from, mut to), mut writer) = beside_output(texts, rt, progress)?;
     table_text(
         rt,
         rt.alloc(),
@@ -193,8 +193,8 @@ pub fn rehearse<R: AllocGlobal + Clock + Eprint + Files + Input + Print + Thread
     requires width { ForSome delta IsWidth }
     ensures width { IfOk result (λ done. told_width done ≡ delta) }
 {
-    let (mut gr, mut script) = open_texts(rt, progress, network, script)?;
-    let mut writer = told_output(rt, progress)?;
+    let texts = open_texts(rt, progress, network, script)?;
+    let ((mut gr, mut script), mut writer) = beside_output(texts, rt, progress)?;
     rehearse_text(
         rt,
         rt.alloc(),

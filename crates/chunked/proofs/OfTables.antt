@@ -1,27 +1,27 @@
--- Items in tables of 64, and these in tables of 64: what a change of one of them is in the list of all.
-use Rattle.std.proofs.Common.{◌≡◌, ◌∙◌, ◌⊎◌, ℕ, zero, suc, ◌+◌, ◌*◌, ◌/◌, ◌%◌, ◌<◌, ◌≤◌, List, [], ◌∷◌, ◌++◌, length, map, get_or, set, take, replicate, refl, sym, ap, ap₂, arith, ⊎_elim, Global, Result, Ok, Err, OnOk, OnErr}
+-- Items in tables of 256: what a change of one of them is in the list of all.
+use Rattle.std.proofs.Common.{◌≡◌, ◌∙◌, ◌⊎◌, ℕ, ◌+◌, ◌*◌, ◌/◌, ◌%◌, ◌<◌, ◌≤◌, List, [], ◌∷◌, ◌++◌, length, map, get_or, set, take, refl, sym, ap, ap₂, arith, ⊎_elim, Global, Result, Ok, Err, OnOk, OnErr}
 use Rattle.std.specs.List.{flat_map, AllZip}
 use Rattle.std.proofs.Math.ListN.{get_or-map}
 use Rattle.std.proofs.Math.Seq.{map-set_same}
-use Rattle.std.proofs.lemmas.List.{get_or_default, length-map, map-set, replicate-append-replicate}
+use Rattle.std.proofs.lemmas.List.{get_or_default, length-map, map-set}
 use Rattle.std.proofs.lemmas.List.Folds.{flat_map-map}
 use Rattle.std.specs.declared.sync.Arc.{Arc}
 use Rattle.chunked.specs.declared.table.Table.{Table}
-use Rattle.chunked.specs.Tables.{table_items, nested_items, items_of}
+use Rattle.chunked.specs.Tables.{table_items, items_of}
 use Rattle.chunked.proofs.Items.{length-items}
-use Rattle.chunked.proofs.Joined.{length-joined, get_or-joined, set-joined}
+use Rattle.chunked.proofs.Joined.{get_or-joined, set-joined}
 
 abbrev pub value_of : {C : Type 0} → Arc C Global → C
 value_of item = item.value
 
-abbrev pub nested_of : {C : Type 0} → Arc (Table (Table C)) Global → List C
-nested_of table = nested_items table.value
+abbrev pub of_table : {C : Type 0} → Arc (Table C) Global → List C
+of_table table = table_items table.value
 
-pub full_table : {C : Type 0} (table : Table C) → length (table_items table) ≡ 64
-full_table table = length-map table.items (λ item. item.value) ∙ table.full
+pub full_items : {C : Type 0} (table : Table C) → length (table_items table) ≡ 256
+full_items table = length-map table.items (λ item. item.value) ∙ table.full
 
-pub full_nested : {C : Type 0} (table : Arc (Table (Table C)) Global) → length (nested_of table) ≡ 4096
-full_nested table = omega (arith, length-joined table_items 64 full_table (table_items table.value), full_table table.value)
+pub full_table : {C : Type 0} (table : Arc (Table C) Global) → length (of_table table) ≡ 256
+full_table table = full_items table.value
 
 -- ---- shares
 pub same_items : {C : Type 0} (cs ds : List (Arc C Global)) → AllZip (λ c d. d.value ≡ c.value) cs ds → map (λ (c : Arc C Global). c.value) ds ≡ map (λ (c : Arc C Global). c.value) cs
@@ -47,18 +47,14 @@ keep_joined f xs k d new kept =
     ∙ (ap (flat_map (λ l. l)) (map-set_same f xs k new d kept) ∙ flat_map-map (λ l. l) f xs)
 
 -- ---- the k-th item
-pub item_here : {C : Type 0} (tables : List (Arc (Table (Table C)) Global)) (k : ℕ) (table : Arc (Table (Table C)) Global) (outer : Table (Table C)) (slot : Arc (Table C) Global) (inner : Table C) (item : Arc C Global) (value : C) → k < length tables * 4096 → table ≡ get_or tables (k / 4096) table → outer ≡ table.value → inner ≡ (get_or outer.items (k / 64 % 64) slot).value → value ≡ (get_or inner.items (k % 64) item).value → (d : C) → get_or (items_of tables) k d ≡ value
-item_here {C} tables k table outer slot inner item value h is is-outer is-inner is-value d =
-    let at : k ≡ k / 4096 * 4096 + k % 4096 = omega arith in
-    let at' : k % 4096 ≡ k / 64 % 64 * 64 + k % 64 = omega arith in
+pub item_here : {C : Type 0} (tables : List (Arc (Table C) Global)) (k : ℕ) (table : Arc (Table C) Global) (inner : Table C) (item : Arc C Global) (value : C) → k < length tables * 256 → table ≡ get_or tables (k / 256) table → inner ≡ table.value → value ≡ (get_or inner.items (k % 256) item).value → (d : C) → get_or (items_of tables) k d ≡ value
+item_here {C} tables k table inner item value h is is-inner is-value d =
+    let at : k ≡ k / 256 * 256 + k % 256 = omega arith in
     ap (λ p. get_or (items_of tables) p d) at
-    ∙ (get_or-joined nested_of 4096 full_nested tables (k / 4096) (k % 4096) table d (omega (arith, h)) (omega arith)
-    ∙ (ap (λ (t : Arc (Table (Table C)) Global). get_or (nested_of t) (k % 4096) d) (sym is)
-    ∙ (ap (λ t. get_or (nested_items t) (k % 4096) d) (sym is-outer)
-    ∙ (ap (λ p. get_or (nested_items outer) p d) at'
-    ∙ (get_or-joined table_items 64 full_table (table_items outer) (k / 64 % 64) (k % 64) slot.value d (omega (arith, full_table outer)) (omega arith)
-    ∙ (ap (λ (t : Table C). get_or (table_items t) (k % 64) d) (get_or-map (λ (c : Arc (Table C) Global). c.value) outer.items (k / 64 % 64) slot ∙ sym is-inner)
-    ∙ (get_or_default (table_items inner) (k % 64) d item.value (omega (arith, full_table inner)) ∙ (get_or-map (λ (c : Arc C Global). c.value) inner.items (k % 64) item ∙ sym is-value))))))))
+    ∙ (get_or-joined of_table 256 full_table tables (k / 256) (k % 256) table d (omega (arith, h)) (omega arith)
+    ∙ (ap (λ (t : Arc (Table C) Global). get_or (of_table t) (k % 256) d) (sym is)
+    ∙ (ap (λ t. get_or (table_items t) (k % 256) d) (sym is-inner)
+    ∙ (get_or_default (table_items inner) (k % 256) d item.value (omega (arith, full_items inner)) ∙ (get_or-map (λ (c : Arc C Global). c.value) inner.items (k % 256) item ∙ sym is-value)))))
 
 -- ---- one item of a table replaced
 pub set_item : {C : Type 0} (table old : Table C) (k : ℕ) (item : Arc C Global) → table_items table ≡ table_items old → map (λ (c : Arc C Global). c.value) (set table.items k item) ≡ set (table_items old) k item.value
@@ -66,11 +62,11 @@ set_item {C} table old k item same = map-set (λ (c : Arc C Global). c.value) ta
 
 -- one item of a list that stands in a table
 module _ {T C : Type 0} (part : C → List T) (table old : Table C) (k : ℕ) (d new : Arc C Global) (same : table_items table ≡ table_items old) where
-  pub put_item : (n : ℕ) → ((c : C) → length (part c) ≡ n) → (place j : ℕ) (v : T) → place ≡ k * n + j → k < 64 → j < n → part new.value ≡ set (part (get_or table.items k d).value) j v → flat_map part (map (λ (c : Arc C Global). c.value) (set table.items k new)) ≡ set (flat_map part (table_items old)) place v
+  pub put_item : (n : ℕ) → ((c : C) → length (part c) ≡ n) → (place j : ℕ) (v : T) → place ≡ k * n + j → k < 256 → j < n → part new.value ≡ set (part (get_or table.items k d).value) j v → flat_map part (map (λ (c : Arc C Global). c.value) (set table.items k new)) ≡ set (flat_map part (table_items old)) place v
   put_item n size place j v at there within put =
       let put' : part new.value ≡ set (part (get_or (table_items table) k d.value)) j v = put ∙ ap (λ (c : C). set (part c) j v) (sym (get_or-map (λ (c : Arc C Global). c.value) table.items k d)) in
       ap (flat_map part) (map-set (λ (c : Arc C Global). c.value) table.items k new)
-      ∙ (set-joined part n size (table_items table) k j d.value new.value v (omega (arith, there, full_table table)) within put'
+      ∙ (set-joined part n size (table_items table) k j d.value new.value v (omega (arith, there, full_items table)) within put'
       ∙ (ap (λ p. set (flat_map part (table_items table)) p v) (sym at) ∙ ap (λ cs. set (flat_map part cs) place v) same))
 
   pub keep_item : part new.value ≡ part (get_or table.items k d).value → flat_map part (map (λ (c : Arc C Global). c.value) (set table.items k new)) ≡ flat_map part (table_items old)
@@ -80,17 +76,8 @@ module _ {T C : Type 0} (part : C → List T) (table old : Table C) (k : ℕ) (d
       ∙ (sym (flat_map-map part (λ (c : Arc C Global). c.value) table.items) ∙ ap (flat_map part) same))
 
 -- ---- lists
-pub list_long : {C : Type 0} (tables : List (Arc (Table (Table C)) Global)) (len : ℕ) → len ≤ length tables * 4096 → length (take len (items_of tables)) ≡ len
-list_long tables len fits = length-items nested_of 4096 full_nested tables len fits
-
--- a table of tables of shares of one item
-pub joined_same : {X A : Type 0} (f : X → List A) (m n : ℕ) (x : X) (v : A) → f x ≡ replicate n v → flat_map f (replicate m x) ≡ replicate (m * n) v
-joined_same f zero n x v is =
-    let e : 0 * n ≡ 0 = omega arith in
-    rw e refl
-joined_same f (suc m) n x v is =
-    let e : suc m * n ≡ n + m * n = omega arith in
-    rw e (ap₂ (λ l r. l ++ r) is (joined_same f m n x v is) ∙ replicate-append-replicate n (m * n) v)
+pub list_long : {C : Type 0} (tables : List (Arc (Table C) Global)) (len : ℕ) → len ≤ length tables * 256 → length (take len (items_of tables)) ≡ len
+list_long tables len fits = length-items of_table 256 full_table tables len fits
 
 -- ---- what an answer says
 pub err : {T E P : Type 0} (r : Result T E) → P → OnErr r P

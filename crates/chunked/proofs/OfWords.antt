@@ -9,16 +9,16 @@ use Rattle.chunked.specs.Tables.{items_of}
 use Rattle.chunked.proofs.Items.{length-items, item_at}
 use Rattle.chunked.proofs.Joined.{length-joined, take-before}
 use Rattle.chunked.proofs.OfChunks.{words_of, full_words}
-use Rattle.chunked.proofs.OfTables.{full_nested, nested_of}
+use Rattle.chunked.proofs.OfTables.{full_table, of_table}
 
-module _ (tables : List (Arc (Table (Table WordChunk)) Global)) (len : ℕ) where
-  count : length (items_of tables) ≡ length tables * 4096
-  count = length-joined nested_of 4096 full_nested tables
+module _ (tables : List (Arc (Table WordChunk) Global)) (len : ℕ) where
+  count : length (items_of tables) ≡ length tables * 256
+  count = length-joined of_table 256 full_table tables
 
-  pub long : len ≤ length tables * 4194304 → length (take len (flat_map words_of (items_of tables))) ≡ len
+  pub long : len ≤ length tables * 262144 → length (take len (flat_map words_of (items_of tables))) ≡ len
   long fits = length-items words_of 1024 full_words (items_of tables) len (omega (arith, fits, count))
 
-  pub get_word : len ≤ length tables * 4194304 → (place : ℕ) (chunk : WordChunk) (word : ℕ) → place < len → ((d : WordChunk) → get_or (items_of tables) (place / 1024) d ≡ chunk) → word ≡ get_or (words_of chunk) (place % 1024) word → (d : ℕ) → get_or (take len (flat_map words_of (items_of tables))) place d ≡ word
+  pub get_word : len ≤ length tables * 262144 → (place : ℕ) (chunk : WordChunk) (word : ℕ) → place < len → ((d : WordChunk) → get_or (items_of tables) (place / 1024) d ≡ chunk) → word ≡ get_or (words_of chunk) (place % 1024) word → (d : ℕ) → get_or (take len (flat_map words_of (items_of tables))) place d ≡ word
   get_word fits place chunk word h is is' d = item_at words_of 1024 full_words (items_of tables) len place (place / 1024) (place % 1024) chunk word h (omega arith) (omega (arith, h, fits, count)) (omega arith) (sym (is chunk)) is' d
 
   -- the first chunks have the words, if they are as many

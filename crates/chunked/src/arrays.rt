@@ -87,7 +87,7 @@ impl<T: Copy + Drop> ChunkedArray<T> {
         &self.chunks.get(k).items[..CHUNK.min(self.len - k * CHUNK)]
     }
 
-    /// The same array once more: it costs a counter for each 4,096 chunks.
+    /// The same array once more: it costs a counter for each 256 chunks.
     pub fn share(&self) -> Result<ChunkedArray<T>, AllocError>
         ensures { IfOk result (λ shared. shared ≡ self.now) }
     {

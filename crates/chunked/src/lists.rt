@@ -1,17 +1,17 @@
 ghost use Rattle.std.specs.Prelude.{◌≡◌};
 
 use crate::table::Table;
-use crate::tables::{NESTED, item_at, lay, put_nested};
+use crate::tables::{ITEMS, item_at, lay, put};
 use std::alloc::{AllocError, Global};
 use std::marker::Model;
 use std::sync::Arc;
 
-/// A list of items of any size, each behind a counter, in tables of 64, and these in tables of 64, which its versions share. To share it costs a counter for
-/// each 4,096 items, and a change copies the two tables that it touches, unless nobody else has them.
+/// A list of items of any size, each behind a counter, in tables of 256, which its versions share. To share it costs a counter for each 256 items, and a
+/// change copies the table that it touches, unless nobody else has it.
 #[derive(Drop)]
 pub struct SharedList<C> {
     pub(crate) len: usize,
-    pub(crate) tables: Vec<Arc<Table<Table<C>>>>,
+    pub(crate) tables: Vec<Arc<Table<C>>>,
 }
 
 impl<C> Model for SharedList<C> {
@@ -22,7 +22,7 @@ impl<C> Model for SharedList<C> {
 
     ghost view = { λ a. take a.len (items_of a.tables.items) };
 
-    ghost invariant = { λ a. a.len ≤ length a.tables.items * 4096 };
+    ghost invariant = { λ a. a.len ≤ length a.tables.items * 256 };
 }
 
 impl<C: Drop> SharedList<C> {
@@ -33,7 +33,7 @@ impl<C: Drop> SharedList<C> {
     pub fn with_capacity(alloc: Global, count: usize) -> Result<SharedList<C>, AllocError>
         ensures { IfOk result (λ list. list ≡ []) }
     {
-        let tables = Vec::with_capacity(alloc, count.div_ceil(NESTED))?;
+        let tables = Vec::with_capacity(alloc, count.div_ceil(ITEMS))?;
         Ok(SharedList { len: 0, tables })
     }
 
@@ -60,14 +60,14 @@ impl<C: Drop> SharedList<C> {
 
     /// The tables of the items, to be read again and again. Behind the items whatever stands there is of no account.
     #[inline(always)]
-    pub(crate) fn tables(&self) -> &[Arc<Table<Table<C>>>]
+    pub(crate) fn tables(&self) -> &[Arc<Table<C>>]
         ensures items { take (length self.now) (items_of result.now) ≡ self.now }
-        ensures room { length self.now ≤ length result.now * 4096 }
+        ensures room { length self.now ≤ length result.now * 256 }
     {
         &self.tables
     }
 
-    /// The same list once more: it costs a counter for each 4,096 items.
+    /// The same list once more: it costs a counter for each 256 items.
     pub fn share(&self) -> Result<SharedList<C>, AllocError>
         ensures { IfOk result (λ shared. shared ≡ self.now) }
     {
@@ -85,7 +85,7 @@ impl<C: Drop> SharedList<C> {
         ensures err { OnErr result (self.new ≡ self.old) }
     {
         let item = Arc::new(*self.tables.allocator(), item)?;
-        put_nested(&mut self.tables[place / NESTED], place % NESTED, item)
+        put(&mut self.tables[place / ITEMS], place % ITEMS, item)
     }
 
     /// Adds an item at the end. The one error is want of memory, and the list is as it was.

@@ -1,7 +1,7 @@
 //! The items of arrays, in pieces of 1,024, which stand in the tables of a list.
 
 ghost use Rattle.std.specs.Prelude.{◌≡◌, ◌<◌, ◌*◌, List, length, flat_map, OnOk, OnErr, slice_set};
-ghost use Rattle.chunked.specs.Tables.{table_items, nested_items};
+ghost use Rattle.chunked.specs.Tables.{table_items};
 
 use crate::lists::SharedList;
 use crate::table::Table;
@@ -12,10 +12,7 @@ use std::sync::Arc;
 pub const CHUNK: usize = 1024;
 
 /// How many items the chunks of a table have together.
-const TABLE: usize = 65_536;
-
-/// How many items the chunks of a table's tables have together.
-const NESTED: usize = 4_194_304;
+const TABLE: usize = 262_144;
 
 /// The items of a chunk.
 pub(crate) trait Piece: Drop {
@@ -40,30 +37,13 @@ fn put_in_table<P: Piece>(
     place: usize,
     item: P::Item,
 ) -> Result<(), AllocError>
-    requires place { place < 65536 }
+    requires place { place < 262144 }
     ensures ok { OnOk result (flat_map P.items (table_items table.new.value) ≡ slice_set (flat_map P.items (table_items table.old.value)) place item) }
     ensures err { OnErr result (flat_map P.items (table_items table.new.value) ≡ flat_map P.items (table_items table.old.value)) }
 {
     P::put(
         &mut Arc::make_mut(table)?.items[place / CHUNK],
         place % CHUNK,
-        item,
-    )
-}
-
-/// Replaces an item of the chunks of a table's tables, as `put` does.
-fn put_in_tables<P: Piece>(
-    table: &mut Arc<Table<Table<P>>>,
-    place: usize,
-    item: P::Item,
-) -> Result<(), AllocError>
-    requires place { place < 4194304 }
-    ensures ok { OnOk result (flat_map P.items (nested_items table.new.value) ≡ slice_set (flat_map P.items (nested_items table.old.value)) place item) }
-    ensures err { OnErr result (flat_map P.items (nested_items table.new.value) ≡ flat_map P.items (nested_items table.old.value)) }
-{
-    put_in_table(
-        &mut Arc::make_mut(table)?.items[place / TABLE],
-        place % TABLE,
         item,
     )
 }
@@ -77,6 +57,6 @@ impl<P: Piece> SharedList<P> {
         ensures err { OnErr result (flat_map P.items self.new ≡ flat_map P.items self.old) }
         ensures count { length self.new ≡ length self.old }
     {
-        put_in_tables(&mut self.tables[place / NESTED], place % NESTED, item)
+        put_in_table(&mut self.tables[place / TABLE], place % TABLE, item)
     }
 }

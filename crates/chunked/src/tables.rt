@@ -1,22 +1,19 @@
-//! Items in tables of 64, and these in tables of 64, which versions of a list share.
+//! Items in tables of 256, which versions of a list share.
 
 ghost use Rattle.std.specs.Prelude.{◌≡◌, ◌≤◌, ◌<◌, ◌+◌, ◌*◌, ◌++◌, [], ◌∷◌, length, IfOk, OnOk, OnErr, replicate, take, slice_index_or, slice_set};
-ghost use Rattle.chunked.specs.Tables.{table_items, nested_items, items_of};
+ghost use Rattle.chunked.specs.Tables.{table_items, items_of};
 
 use crate::table::Table;
 use std::alloc::{AllocError, Global};
 use std::sync::Arc;
 
 /// How many items a table has.
-const ITEMS: usize = 64;
-
-/// How many items the tables of a table have together.
-pub(crate) const NESTED: usize = 4096;
+pub(crate) const ITEMS: usize = 256;
 
 impl<C: Drop> Table<C> {
     /// A table of shares of one item.
     fn filled(alloc: Global, item: &Arc<C>) -> Result<Table<C>, AllocError>
-        ensures { IfOk result (λ table. table_items table ≡ replicate 64 item.now.value) }
+        ensures { IfOk result (λ table. table_items table ≡ replicate 256 item.now.value) }
     {
         let mut items = Vec::with_capacity(alloc, ITEMS)?;
         for _k in 0..ITEMS {
@@ -40,16 +37,20 @@ impl<C: Drop> Clone for Table<C> {
 
 /// The k-th item of these tables, counted from 0.
 #[inline(always)]
-pub(crate) fn item_at<C: Drop>(tables: &[Arc<Table<Table<C>>>], k: usize) -> &C
-    requires k { k < length tables.now * 4096 }
+pub(crate) fn item_at<C: Drop>(tables: &[Arc<Table<C>>], k: usize) -> &C
+    requires k { k < length tables.now * 256 }
     ensures { (d : C) → slice_index_or (items_of tables.now) k d ≡ result.now }
 {
-    &tables[k / NESTED].items[k / ITEMS % ITEMS].items[k % ITEMS]
+    &tables[k / ITEMS].items[k % ITEMS]
 }
 
 /// Replaces an item of a table: in place, where nobody else has the table, else in a copy of it.
-fn put<C: Drop>(table: &mut Arc<Table<C>>, k: usize, item: Arc<C>) -> Result<(), AllocError>
-    requires k { k < 64 }
+pub(crate) fn put<C: Drop>(
+    table: &mut Arc<Table<C>>,
+    k: usize,
+    item: Arc<C>,
+) -> Result<(), AllocError>
+    requires k { k < 256 }
     ensures ok { OnOk result (table_items table.new.value ≡ slice_set (table_items table.old.value) k item.value) }
     ensures err { OnErr result (table_items table.new.value ≡ table_items table.old.value) }
 {
@@ -57,37 +58,23 @@ fn put<C: Drop>(table: &mut Arc<Table<C>>, k: usize, item: Arc<C>) -> Result<(),
     Ok(())
 }
 
-/// Replaces an item of a table's tables: in place, where nobody else has the table and the item's own, else in copies of what others have.
-pub(crate) fn put_nested<C: Drop>(
-    table: &mut Arc<Table<Table<C>>>,
-    k: usize,
-    item: Arc<C>,
-) -> Result<(), AllocError>
-    requires k { k < 4096 }
-    ensures ok { OnOk result (nested_items table.new.value ≡ slice_set (nested_items table.old.value) k item.value) }
-    ensures err { OnErr result (nested_items table.new.value ≡ nested_items table.old.value) }
-{
-    put(&mut Arc::make_mut(table)?.items[k / ITEMS], k % ITEMS, item)
-}
-
 /// Lays an item behind the first k ones of these tables.
 pub(crate) fn lay<C: Drop>(
     alloc: Global,
-    tables: &mut Vec<Arc<Table<Table<C>>>>,
+    tables: &mut Vec<Arc<Table<C>>>,
     k: usize,
     item: Arc<C>,
 ) -> Result<(), AllocError>
-    requires k { k ≤ length tables.old.items * 4096 }
+    requires k { k ≤ length tables.old.items * 256 }
     ensures ok { OnOk result (take (k + 1) (items_of tables.new.items) ≡ take k (items_of tables.old.items) ++ item.value ∷ []) }
-    ensures room { OnOk result (k + 1 ≤ length tables.new.items * 4096) }
+    ensures room { OnOk result (k + 1 ≤ length tables.new.items * 256) }
     ensures err { OnErr result (items_of tables.new.items ≡ items_of tables.old.items) }
     ensures kept { OnErr result (length tables.new.items ≡ length tables.old.items) }
 {
-    if k / NESTED < tables.len() {
-        return put_nested(&mut tables[k / NESTED], k % NESTED, item);
+    if k / ITEMS < tables.len() {
+        return put(&mut tables[k / ITEMS], k % ITEMS, item);
     }
     let table = Arc::new(alloc, Table::filled(alloc, &item)?)?;
-    let table = Arc::new(alloc, Table::filled(alloc, &table)?)?;
     tables.push(table)?;
     Ok(())
 }

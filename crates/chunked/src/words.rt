@@ -61,7 +61,7 @@ impl Model for ChunkedWords {
 #[derive(Drop)]
 pub struct WordTable<'a> {
     len: usize,
-    tables: &'a [Arc<Table<Table<WordChunk>>>],
+    tables: &'a [Arc<Table<WordChunk>>],
 }
 
 impl<'a> Model for WordTable<'a> {
@@ -72,7 +72,7 @@ impl<'a> Model for WordTable<'a> {
 
     ghost view = { λ a. take a.len (flat_map (λ chunk. chunk.words) (items_of a.tables.now)) };
 
-    ghost invariant = { λ a. a.len ≤ length a.tables.now * 4194304 };
+    ghost invariant = { λ a. a.len ≤ length a.tables.now * 262144 };
 }
 
 impl WordTable<'_> {
@@ -134,7 +134,7 @@ impl ChunkedWords {
         self.chunks.get(place / CHUNK).words[place % CHUNK]
     }
 
-    /// The same words once more: it costs a counter for each 4,096 chunks.
+    /// The same words once more: it costs a counter for each 256 chunks.
     pub fn share(&self) -> Result<ChunkedWords, AllocError>
         ensures { IfOk result (λ shared. shared ≡ self.now) }
     {

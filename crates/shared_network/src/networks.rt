@@ -46,7 +46,7 @@ impl SharedNetwork {
         })
     }
 
-    /// The same network once more: it costs a counter for each 4,194,304 arcs. The only error is lack of memory.
+    /// The same network once more: it costs a counter for each 262,144 arcs. The only error is lack of memory.
     pub fn share(&self) -> Result<SharedNetwork, OutOfMemory>
         ensures { IfOk result (λ shared. shared ≡ self.now) }
     {

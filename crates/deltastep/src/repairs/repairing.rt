@@ -142,7 +142,7 @@ fn repaired<T: Team>(
 /// `before` and `snapshot` are the snapshots of the two networks, which have the same nodes. `changed` has each node that does not have the same legs in
 /// both, as `changed_nodes` gives them. For each leg of the new snapshot, `back` has one from its head to its tail. Nodes whose shortest walks may use a leg
 /// that is gone lose their distance, and so do the nodes that depend on these. Then the search continues from the nodes with a leg that leads to less than
-/// is known. It takes time for what was lost and changed, with the legs around it, a counter for each 4,194,304 nodes, and an empty list for each
+/// is known. It takes time for what was lost and changed, with the legs around it, a counter for each 262,144 nodes, and an empty list for each
 /// 32,768 nodes where the workspace has none. It takes memory for those lists, for the ring, and for the chunks in which a word is written: the others are
 /// those of the row before. If a quarter of the nodes or more lose their distance, or a length does not fit into 4 bytes, or the row before was not kept in
 /// words of 4 bytes, the row is made anew. Its only error is lack of memory.

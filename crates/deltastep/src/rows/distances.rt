@@ -50,7 +50,7 @@ impl Distances {
     }
 
     /// The same distances as the values of a repair, which share the words of this row, if it is kept in words of 4 bytes. It takes a counter for
-    /// each 4,194,304 nodes.
+    /// each 262,144 nodes.
     pub(crate) fn to_tentative(&self) -> Result<Option<SharedTentative>, RowError>
         ensures { IfOk result (λ shared. IfSome shared (λ tentative. tentative ≡ None ∷ self.now)) }
     {

@@ -3,4 +3,4 @@ use Rattle.chunked.proofs.tables.item_at.Goals as goal
 
 pub returns : goal.returns
 returns g c =
-    item_here c.args.tables.now c.args.k c.index-tables-k.result c.deref.result.now c.index-deref-k.result c.deref-2.result.now c.index-deref-k-2.result c.deref-3.result.now c.requires.k c.index-tables-k.is c.deref.ensures c.deref-2.ensures c.deref-3.ensures
+    item_here c.args.tables.now c.args.k c.index-tables-k.result c.deref.result.now c.index-deref-k.result c.deref-2.result.now c.requires.k c.index-tables-k.is c.deref.ensures c.deref-2.ensures

@@ -5,11 +5,14 @@
     tools/measure_gate.py --watch PID            watches a gate that runs already, until the process PID ends
 
 Looks twice a second at each prover below the gate's process. A crate's proof, its tests and its edits (with the proofs that they begin with) are told in
-processor seconds, with the most memory that one of its provers took. `minute` is when its proof ended by the clock. Crates that an earlier run kept are missing.
-A prover that does not run in a crate's folder tries an edit."""
+processor seconds, with the memory that the kit reckons for one of its provers (`need`; none is told by a kit that has no such word) and the most that one took.
+`minute` is when its proof ended by the clock. Crates that an earlier run kept are missing. A prover that does not run in a crate's folder tries an edit."""
 import collections
+import importlib.machinery
+import importlib.util
 import os
 import pathlib
+import shutil
 import subprocess
 import sys
 import time
@@ -51,6 +54,20 @@ def watch(gate, is_running):
         time.sleep(0.5)
     return provers.values()
 
+def needs():
+    """How many bytes the kit reckons for a prover of each crate, or nothing where this kit does not tell it."""
+    said, sys.argv, sys.dont_write_bytecode = sys.argv, ["rt"], True
+    try:
+        loader = importlib.machinery.SourceFileLoader("rt", os.path.realpath(shutil.which("rt")))
+        kit = importlib.util.module_from_spec(importlib.util.spec_from_loader("rt", loader))
+        loader.exec_module(kit)
+        os.chdir(TOP)
+        return {it.name: kit.need(it) for it in kit.crates_of(str(TOP))}
+    except (Exception, SystemExit):
+        return {}
+    finally:
+        sys.argv = said
+
 def table(provers):
     took, most, ended = collections.defaultdict(collections.Counter), collections.Counter(), {}
     for crate, kind, seconds, held, last in provers:
@@ -58,12 +75,14 @@ def table(provers):
         most[crate] = max(most[crate], held)
         if kind == "proof":
             ended[crate] = max(last, ended.get(crate, 0))
-    print("| Crate | Proof, s | Tests, s | Edits, s | Memory, GB | Minute |\n|---|---|---|---|---|---|")
+    need = needs()
+    print("| Crate | Proof, s | Tests, s | Edits, s | Need, GB | Taken, GB | Minute |\n|---|---|---|---|---|---|---|")
     for crate in sorted(took, key=lambda it: -took[it].total()):
         figures = [f"{took[crate][kind]:.0f}" if took[crate][kind] else "" for kind in ("proof", "tests", "edits")]
+        figures.append(f"{need[crate] / 1e9:.1f}" if crate in need else "")
         print(f"| `{crate}` | {' | '.join(figures)} | {most[crate] / 1e9:.1f} | {ended.get(crate, 0) / 60:.0f} |")
     sums = [sum(it[kind] for it in took.values()) / 60 for kind in ("proof", "tests", "edits")]
-    print(f"| all, in minutes | {' | '.join(f'{it:.0f}' for it in sums)} | | |")
+    print(f"| all, in minutes | {' | '.join(f'{it:.0f}' for it in sums)} | | | |")
 
 def main(words):
     if words[:1] == ["--watch"]:

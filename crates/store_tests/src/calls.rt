@@ -1,10 +1,10 @@
 // Which writes and syncs each call of a store makes, and in which order, by the record of a disk in memory.
-use crate::stores::{created, opened};
-use disk::{MemDisk, Pick, Recorded, Stoppable};
-use fixtures::arc;
-use roadnet::{Command, Network, Refusal};
+use crate::steps::Step::{Checkpoint, Commit, Part};
+use crate::steps::{Life, Step, new_disk, stepped, stopped};
+use disk::{MemDisk, Pick, Recorded};
+use roadnet::{Command, Refusal};
 use std::alloc::Global;
-use store::{Store, inspect};
+use store::inspect;
 
 // A write of so many whole pages from one on, of a page's bytes before its gate, or of its gate; or a sync.
 #[derive(Clone, Copy)]
@@ -50,62 +50,43 @@ fn first_other(disk: &MemDisk, calls: &[Call]) -> Option<usize> {
     }
 }
 
-// Two nodes, and so many arcs from the one to the other, with room for so many.
-fn parallel(alloc: Global, arcs: usize, room: u64) -> Result<Network, Refusal> {
-    let arcs = vec![in alloc; arc(1, 2, 5); arcs]?;
-    match Network::new(alloc, 2, arcs, &[])?.with_room(room) {
-        Ok(network) => Ok(network),
-        Err((refusal, _)) => Err(refusal),
-    }
-}
-
-// What is done with a store: a commit of one command, or of one that lays an arc, a checkpoint, or a part of one, of so many word pages and end pages.
-#[derive(Clone, Copy)]
-enum Work {
-    Commit,
-    Lay,
-    Whole,
-    Part(u32),
-}
-
-use Work::{Commit, Lay, Part, Whole};
-
-const LAY: Command = Command::Lay {
+const LAY: &[Command] = &[Command::Lay {
     tail: 2,
     head: 1,
     length: 7,
-};
+}];
 
-fn work_on(store: &mut Store<MemDisk>, works: &[Work]) -> Result<(), Refusal> {
-    for &work in works {
-        match work {
-            Commit if store.network().is_landmark(1) => {
-                store.commit(&[Command::Unmark { node: 1 }])?;
-            }
-            Commit => {
-                store.commit(&[Command::Mark { node: 1 }])?;
-            }
-            Lay => {
-                store.commit(&[LAY])?;
-            }
-            Whole => {
-                store.checkpoint()?;
-            }
-            Part(pages) => {
-                store.checkpoint_part(pages.clamp(1, 64))?;
-            }
-        }
+const LAYS: &[&[Command]] = &[LAY, LAY];
+
+const MARKS: &[&[Command]] = &[
+    &[Command::Mark { node: 1 }],
+    &[Command::Unmark { node: 1 }],
+    &[Command::Mark { node: 1 }],
+];
+
+/// The life of a store of so many arcs with room for so many, with these groups and so many journal pages.
+fn life_of(
+    arcs: usize,
+    room: u64,
+    groups: &'static [&'static [Command]],
+    journal_pages: u32,
+) -> Life {
+    Life {
+        arcs: Some(arcs),
+        room,
+        journal_pages,
+        groups,
     }
-    Ok(())
 }
 
-// A store of so many arcs with room for so many, with a journal of two pages; what was done with it before, and what is done once it is opened again; and the calls
-// of the disk from the opening on.
+// How many arcs there are, the room, and the groups; what was done with the store before, and what is done once it is opened again; and the calls of the disk
+// from the opening on.
 type Row = (
     usize,
     u64,
-    &'static [Work],
-    &'static [Work],
+    &'static [&'static [Command]],
+    &'static [Step],
+    &'static [Step],
     &'static [Call],
 );
 
@@ -114,14 +95,22 @@ type Row = (
 // 18, with room for 10 (one of each) 2, 5 and 8; of none with room for 22,506 (22 and 45) 1, 69 and 137.
 const ROWS: [Row; 18] = [
     // Opening syncs, and writes nothing.
-    (8, 8, &[], &[], &[Sync]),
+    (8, 8, MARKS, &[], &[], &[Sync]),
     // A flush to a page whose gate reads closed: body, sync, gate, sync.
-    (8, 8, &[], &[Commit], &[Sync, Body(6), Sync, Gate(6), Sync]),
+    (
+        8,
+        8,
+        MARKS,
+        &[],
+        &[Commit],
+        &[Sync, Body(6), Sync, Gate(6), Sync],
+    ),
     // To one whose gate reads open, which a checkpoint made free: first the gate is closed, and that is synced.
     (
         8,
         8,
-        &[Commit, Commit, Whole],
+        MARKS,
+        &[Commit, Commit, Checkpoint],
         &[Commit],
         &[Sync, Gate(6), Sync, Body(6), Sync, Gate(6), Sync],
     ),
@@ -129,14 +118,16 @@ const ROWS: [Row; 18] = [
     (
         2047,
         2047,
+        MARKS,
         &[Commit],
-        &[Whole],
+        &[Checkpoint],
         &[Sync, Pages(11, 3), Body(10), Sync, Gate(10), Sync],
     ),
     // In parts of one page each part but the last syncs.
     (
         2047,
         2047,
+        MARKS,
         &[Commit],
         &[Part(1), Part(1), Part(1)],
         &[
@@ -156,6 +147,7 @@ const ROWS: [Row; 18] = [
     (
         2047,
         2047,
+        MARKS,
         &[Commit],
         &[Part(2), Commit, Part(64)],
         &[
@@ -177,8 +169,9 @@ const ROWS: [Row; 18] = [
     (
         2047,
         2047,
+        MARKS,
         &[Commit],
-        &[Part(2), Whole],
+        &[Part(2), Checkpoint],
         &[
             Sync,
             Pages(11, 2),
@@ -194,8 +187,9 @@ const ROWS: [Row; 18] = [
     (
         2047,
         2047,
-        &[Commit, Whole, Commit],
-        &[Whole],
+        MARKS,
+        &[Commit, Checkpoint, Commit],
+        &[Checkpoint],
         &[
             Sync,
             Gate(6),
@@ -210,7 +204,8 @@ const ROWS: [Row; 18] = [
     (
         2047,
         2047,
-        &[Commit, Whole, Commit],
+        MARKS,
+        &[Commit, Checkpoint, Commit],
         &[Part(2), Part(2)],
         &[
             Sync,
@@ -229,16 +224,18 @@ const ROWS: [Row; 18] = [
     (
         0,
         0,
+        MARKS,
         &[Commit],
-        &[Whole],
+        &[Checkpoint],
         &[Sync, Body(2), Sync, Gate(2), Sync],
     ),
     // No write has more than 64 word pages.
     (
         66000,
         66000,
+        MARKS,
         &[Commit],
-        &[Whole],
+        &[Checkpoint],
         &[
             Sync,
             Pages(198, 64),
@@ -251,22 +248,31 @@ const ROWS: [Row; 18] = [
         ],
     ),
     // With no page unchecked no call is made.
-    (8, 8, &[], &[Whole, Part(1)], &[Sync]),
+    (8, 8, MARKS, &[], &[Checkpoint, Part(1)], &[Sync]),
     // A flush where a slot has an end page.
-    (8, 10, &[], &[Lay], &[Sync, Body(8), Sync, Gate(8), Sync]),
+    (
+        8,
+        10,
+        LAYS,
+        &[],
+        &[Commit],
+        &[Sync, Body(8), Sync, Gate(8), Sync],
+    ),
     // Word pages and end pages are one list: all of them are written, those past the arcs too.
     (
         8,
         2047,
+        MARKS,
         &[Commit],
-        &[Whole],
+        &[Checkpoint],
         &[Sync, Pages(11, 7), Body(10), Sync, Gate(10), Sync],
     ),
     // The second part is the last word page and the first end page, in one write.
     (
         8,
         2047,
-        &[Lay],
+        LAYS,
+        &[Commit],
         &[Part(2), Part(2), Part(2), Part(2)],
         &[
             Sync,
@@ -287,8 +293,9 @@ const ROWS: [Row; 18] = [
     (
         8,
         2047,
-        &[Lay],
-        &[Part(3), Lay, Part(64)],
+        LAYS,
+        &[Commit],
+        &[Part(3), Commit, Part(64)],
         &[
             Sync,
             Pages(11, 3),
@@ -307,8 +314,9 @@ const ROWS: [Row; 18] = [
     (
         8,
         2047,
-        &[Lay, Whole, Lay],
-        &[Part(4), Whole],
+        LAYS,
+        &[Commit, Checkpoint, Commit],
+        &[Part(4), Checkpoint],
         &[
             Sync,
             Gate(2),
@@ -326,8 +334,9 @@ const ROWS: [Row; 18] = [
     (
         0,
         22506,
-        &[Lay],
-        &[Whole],
+        LAYS,
+        &[Commit],
+        &[Checkpoint],
         &[
             Sync,
             Pages(70, 64),
@@ -341,28 +350,19 @@ const ROWS: [Row; 18] = [
     ),
 ];
 
-// Opens the store on this disk, does these works and closes it.
-fn worked_on(alloc: Global, disk: MemDisk, works: &[Work]) -> Result<MemDisk, Refusal> {
-    let mut store = opened(alloc, disk)?;
-    let worked = work_on(&mut store, works);
-    let disk = store.close();
-    worked?;
-    Ok(disk)
-}
-
 // The disk of a new store of a row, once it was worked on. All of it is synced: a stop changes nothing, and the record begins anew.
 fn begun(alloc: Global, row: &Row) -> Result<MemDisk, Refusal> {
-    let (arcs, room, before, _, _) = *row;
-    let network = parallel(alloc, arcs, room)?;
-    let mut disk = worked_on(alloc, created(alloc, &network, 2)?, before)?;
-    let _ = disk.stop(&[Pick::Old]);
-    Ok(disk)
+    let (arcs, room, groups, before, _, _) = *row;
+    let life = life_of(arcs, room, groups, 2);
+    let disk = stepped(alloc, &life, new_disk(alloc, &life)?, before)?;
+    Ok(stopped(disk, Pick::Old))
 }
 
 // The number of the first call of a row that is made otherwise.
 fn first_wrong(alloc: Global, row: &Row) -> Result<Option<usize>, Refusal> {
-    let (_, _, _, works, calls) = *row;
-    let disk = worked_on(alloc, begun(alloc, row)?, works)?;
+    let (arcs, room, groups, _, steps, calls) = *row;
+    let life = life_of(arcs, room, groups, 2);
+    let disk = stepped(alloc, &life, begun(alloc, row)?, steps)?;
     Ok(first_other(&disk, calls))
 }
 
@@ -414,9 +414,8 @@ const CREATIONS: [(usize, u64, u32, &[Call]); 5] = [
 ];
 
 // The disk of a new store of so many arcs with room for so many, and with so many journal pages.
-fn new_disk(alloc: Global, arcs: usize, room: u64, journal_pages: u32) -> Result<MemDisk, Refusal> {
-    let network = parallel(alloc, arcs, room)?;
-    created(alloc, &network, journal_pages.clamp(1, 64))
+fn made(alloc: Global, arcs: usize, room: u64, journal_pages: u32) -> Result<MemDisk, Refusal> {
+    new_disk(alloc, &life_of(arcs, room, MARKS, journal_pages))
 }
 
 // Of a store that is made all pages are written, the journal's too, with closed gates; then a sync, slot A's gate, a sync, the header's gate
@@ -424,7 +423,7 @@ fn new_disk(alloc: Global, arcs: usize, room: u64, journal_pages: u32) -> Result
 #[test]
 fn calls_of_create(rt: HostRuntime) {
     for (arcs, room, journal_pages, calls) in CREATIONS {
-        let disk = new_disk(rt.alloc(), arcs, room, journal_pages).expect(&rt, "memory");
+        let disk = made(rt.alloc(), arcs, room, journal_pages).expect(&rt, "memory");
         assert!(rt;
             first_other(&disk, calls).is_none(),
             "{arcs} arcs, room {room}"
@@ -435,8 +434,8 @@ fn calls_of_create(rt: HostRuntime) {
 // A look at a file syncs it, and writes nothing.
 #[test]
 fn calls_of_a_look(rt: HostRuntime) {
-    let mut disk = new_disk(rt.alloc(), 8, 8, 2).expect(&rt, "memory");
-    let _ = disk.stop(&[Pick::Old]);
+    let disk = made(rt.alloc(), 8, 8, 2).expect(&rt, "memory");
+    let mut disk = stopped(disk, Pick::Old);
     assert!(rt; inspect(rt.alloc(), &mut disk).is_ok());
     assert!(rt; first_other(&disk, &[Sync]).is_none());
 }

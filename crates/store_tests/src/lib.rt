@@ -6,13 +6,13 @@ mod bytes;
 #[cfg(test)]
 mod calls;
 #[cfg(test)]
-mod checkpointing;
-#[cfg(test)]
-mod committing;
+mod cuts;
 #[cfg(test)]
 mod fixed_disk;
 #[cfg(test)]
 mod judging;
+#[cfg(test)]
+mod living;
 #[cfg(test)]
 mod making;
 #[cfg(test)]
@@ -22,9 +22,9 @@ mod old_files;
 #[cfg(test)]
 mod page_rows;
 #[cfg(test)]
-mod parts;
-#[cfg(test)]
 mod refusing;
+#[cfg(test)]
+mod steps;
 #[cfg(test)]
 mod stopping;
 #[cfg(test)]

@@ -4,8 +4,9 @@ ghost use Rattle.std.specs.Prelude.{IfErr, IfOk};
 ghost use Rattle.store.specs.Opening.{MayRefuseToOpen};
 ghost use Rattle.store.specs.State.{HasTold, told};
 
-use crate::checkpointing::{full, reused, set};
-use crate::parts::{PLANS, one_closed};
+use crate::living::{ENDS_IN_PARTS, LAYING, LENGTHS, WORDS_IN_PARTS};
+use crate::steps::Step::{Checkpoint, Commit, Part};
+use crate::steps::{Life, Step, Told, new_disk, stepped, take_steps, told};
 use crate::stores::opened;
 use disk::{Disk, FailOnce, MemDisk};
 use roadnet::Refusal;
@@ -25,74 +26,40 @@ fn opened_again<D: Disk>(alloc: Global, disk: D) -> Result<Store<D>, (Refusal, D
     }
 }
 
-// What is done with a store.
-#[derive(Clone, Copy)]
-enum Work {
-    Commit,
-    Checkpoint,
-    Parts(usize),
+// The steps by which a store is prepared, those that are tried on it, how many calls of the disk an opening and they make, and what the store tells in the end.
+struct Work {
+    life: Life,
+    before: &'static [Step],
+    steps: &'static [Step],
+    calls: u64,
+    stands: Told,
 }
 
-// The disk on which it is done: the page that the commit writes is open, and so is the slot that the checkpoint writes, of words and ends. That which goes
-// in parts goes by the plan of this number.
-fn disk_for(alloc: Global, work: Work) -> Result<MemDisk, Refusal> {
-    match work {
-        Work::Commit => {
-            let mut store = opened(alloc, full(alloc, 8)?)?;
-            let checked = store.checkpoint();
-            let disk = store.close();
-            checked?;
-            Ok(disk)
-        }
-        Work::Checkpoint => reused(alloc, 9),
-        Work::Parts(plan) => one_closed(alloc, &PLANS[plan % 2]),
-    }
-}
-
-fn work_on<D: Disk>(store: &mut Store<D>, work: Work) -> Result<(), Refusal> {
-    match work {
-        Work::Commit => {
-            store.commit(&[set(1, 9)])?;
-        }
-        Work::Checkpoint => {
-            store.checkpoint()?;
-        }
-        Work::Parts(plan) => {
-            for pages in PLANS[plan % 2].parts {
-                store.checkpoint_part(pages.clamp(1, 64))?;
-            }
-        }
-    }
-    Ok(())
-}
-
-// The version, the length of arc 1, and how many pages are unchecked.
-fn told<D: Disk>(store: &Store<D>) -> (u64, u32, u32) {
-    let length = match store.network().arc(1) {
-        Some(arc) => arc.length,
-        None => 0,
-    };
-    (store.version(), length, store.unchecked())
-}
-
-// What the work is refused with, if it is. The store then tells what it told, and since it is broken it refuses the work again.
-fn refusal_of<D: Disk>(store: &mut Store<D>, work: Work) -> Result<Option<Refusal>, Refusal> {
-    let before = told(store);
-    let Err(refusal) = work_on(store, work) else {
+// What the steps are refused with, if they are. The store then tells what it told, but is broken, and refuses them again.
+fn refusal_of<D: Disk>(
+    alloc: Global,
+    store: &mut Store<D>,
+    work: &Work,
+) -> Result<Option<Refusal>, Refusal> {
+    let (version, unchecked, _) = told(alloc, &work.life, store)?;
+    let Err(refusal) = take_steps(alloc, &work.life, store, work.steps) else {
         return Ok(None);
     };
-    if told(store) != before || store.calm() || work_on(store, work) != Err(Refusal::Broken) {
+    let tells = told(alloc, &work.life, store);
+    let again = take_steps(alloc, &work.life, store, work.steps);
+    if tells != Ok((version, unchecked, false)) || again != Err(Refusal::Broken) {
         return Err(Refusal::NotYet);
     }
     Ok(Some(refusal))
 }
 
-// Opens the disk, of which the k-th call fails, and does the work. Answers what either was refused with, and the disk.
-fn tried(alloc: Global, work: Work, k: u64) -> Result<(Option<Refusal>, MemDisk), Refusal> {
-    match open(alloc, FailOnce::new(disk_for(alloc, work)?, k)) {
+// Opens the disk, of which the k-th call fails, and takes the steps. Answers what either was refused with, and the disk.
+fn tried(alloc: Global, work: &Work, k: u64) -> Result<(Option<Refusal>, MemDisk), Refusal> {
+    let disk = stepped(alloc, &work.life, new_disk(alloc, &work.life)?, work.before)?;
+    match open(alloc, FailOnce::new(disk, k)) {
         Ok(store) => {
             let mut store = store;
-            let refusal = refusal_of(&mut store, work);
+            let refusal = refusal_of(alloc, &mut store, work);
             let disk = store.close().into_inner();
             Ok((refusal?, disk))
         }
@@ -100,29 +67,20 @@ fn tried(alloc: Global, work: Work, k: u64) -> Result<(Option<Refusal>, MemDisk)
     }
 }
 
-// Does the work again on the store that is opened, but for a commit that is there: of that only the last sync failed.
-fn tried_again(alloc: Global, work: Work, disk: MemDisk) -> Result<MemDisk, Refusal> {
+// Takes the steps again on the store that is opened, but for a commit that is there: of that only the last sync failed.
+fn tried_again(alloc: Global, work: &Work, disk: MemDisk) -> Result<MemDisk, Refusal> {
     let mut store = opened(alloc, disk)?;
-    let is_there = match work {
-        Work::Commit => store.version() == 3,
-        _ => false,
-    };
-    let worked = if is_there {
-        Ok(())
-    } else {
-        work_on(&mut store, work)
-    };
+    let (version, _, _) = work.stands;
+    let is_there = store.version() == version && matches!(work.steps, [Commit]);
+    let steps: &[Step] = if is_there { &[] } else { work.steps };
+    let taken = take_steps(alloc, &work.life, &mut store, steps);
     let disk = store.close();
-    worked?;
+    taken?;
     Ok(disk)
 }
 
 // What was refused while the k-th call failed, and what stands in the end.
-fn in_the_end(
-    alloc: Global,
-    work: Work,
-    k: u64,
-) -> Result<(Option<Refusal>, (u64, u32, u32)), Refusal> {
+fn in_the_end(alloc: Global, work: &Work, k: u64) -> Result<(Option<Refusal>, Told), Refusal> {
     let (refusal, disk) = tried(alloc, work, k)?;
     let disk = match refusal {
         Some(_) => tried_again(alloc, work, disk)?,
@@ -131,31 +89,55 @@ fn in_the_end(
     let Ok(store) = opened_again(alloc, disk) else {
         return Err(Refusal::NotYet);
     };
-    Ok((refusal, told(&store)))
+    Ok((refusal, told(alloc, &work.life, &store)?))
 }
 
-// How many calls of the disk an opening and the work make, and what stands in the end: the version, the length of arc 1, the unchecked pages.
+// The page that the commit writes is open, and so is the slot that the checkpoint writes, of words and ends.
 // Opening makes nine calls, one more where there are ends, and one more for a page that is unchecked. The commit reads the gate, closes it, syncs, writes the body, syncs, opens
 // the gate and syncs; the checkpoint does so with the words and the head. The first part reads the gate, which is closed, writes words and syncs;
 // the second writes and syncs; the third writes words and the head, syncs, opens the gate and syncs.
-const ROWS: [(Work, u64, (u64, u32, u32)); 4] = [
-    (Work::Commit, 16, (3, 9, 1)),
-    (Work::Checkpoint, 19, (3, 3, 0)),
-    (Work::Parts(0), 20, (1, 5, 0)),
-    (Work::Parts(1), 21, (1, 5, 0)),
+const WORKS: [Work; 4] = [
+    Work {
+        life: LENGTHS,
+        before: &[Commit, Commit, Checkpoint],
+        steps: &[Commit],
+        calls: 16,
+        stands: (3, 1, true),
+    },
+    Work {
+        life: LAYING,
+        before: &[Commit, Commit, Checkpoint, Commit],
+        steps: &[Checkpoint],
+        calls: 19,
+        stands: (3, 0, true),
+    },
+    Work {
+        life: WORDS_IN_PARTS,
+        before: &[Commit],
+        steps: &[Part(1), Part(1), Part(1)],
+        calls: 20,
+        stands: (1, 0, true),
+    },
+    Work {
+        life: ENDS_IN_PARTS,
+        before: &[Commit],
+        steps: &[Part(1), Part(2), Part(2)],
+        calls: 21,
+        stands: (1, 0, true),
+    },
 ];
 
 #[test]
 fn works_are_tried_again(rt: HostRuntime) {
-    for (i, &(work, calls, stands)) in ROWS.iter().enumerate() {
+    for (i, work) in WORKS.iter().enumerate() {
         for k in 1..=23 {
-            let refusal = if k <= calls {
+            let refusal = if k <= work.calls {
                 Some(Refusal::Device)
             } else {
                 None
             };
             let found = in_the_end(rt.alloc(), work, k);
-            assert!(rt; found == Ok((refusal, stands)), "row {i}, call {k}");
+            assert!(rt; found == Ok((refusal, work.stands)), "work {i}, call {k}");
         }
     }
 }

@@ -135,12 +135,17 @@ fn shares_back(alloc: Global) -> Result<bool, Refusal> {
     Ok(view.with_back(back).back().is_some())
 }
 
+/// The worked network with room for one arc more.
+fn roomy_six(alloc: Global) -> Result<SharedNetwork, Refusal> {
+    match six_with(alloc, &[])?.with_room(9) {
+        Ok(six) => Ok(SharedNetwork::of(alloc, &six)?),
+        Err((refusal, _)) => Err(refusal),
+    }
+}
+
 /// The legs back from node 1, to which no arc led, after arc 9 was laid from node 4 to it.
 fn legs_back(alloc: Global) -> Result<(usize, Option<Leg>), Refusal> {
-    let Ok(six) = six_with(alloc, &[])?.with_room(9) else {
-        return Err(Refusal::TooLarge);
-    };
-    let older = SharedNetwork::of(alloc, &six)?;
+    let older = roomy_six(alloc)?;
     let group = Group::one(Command::Lay {
         tail: 4,
         head: 1,

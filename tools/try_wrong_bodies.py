@@ -154,10 +154,10 @@ def of(functions, names):
 
 
 def apart(bodies, crate):
-    """The first of the bodies that change different functions, and the others."""
+    """The first of the bodies that change different functions, and the others. Methods of one name may be one another's in what a check says, so they are apart."""
     taken, now, later = set(), [], []
     for body in bodies:
-        functions = body.functions(crate)
+        functions = {("" if is_method else path, name) for path, name, is_method in body.functions(crate)}
         if functions & taken or not functions and now:
             later.append(body)
         else:

@@ -1,6 +1,6 @@
 //! Entries in a ring of lists, by the buckets of their values.
 
-ghost use Rattle.std.specs.Prelude.{◌≡◌, ◌≢◌, ℕ, ◌<◌, ◌≤◌, ◌+◌, ◌-◌, ◌/◌, ◌%◌, [], min, set, OnOk, OnErr, IfOk, MatchOption, length};
+ghost use Rattle.std.specs.Prelude.{◌≡◌, ◌≢◌, ℕ, ◌<◌, ◌≤◌, ◌+◌, ◌-◌, ◌/◌, ◌%◌, ◌++◌, [], ◌∷◌, min, set, OnOk, OnErr, IfOk, MatchOption, length};
 ghost use Rattle.buckets.specs.Rings.{IsBucketWithin};
 ghost use Rattle.std.specs.Bool.{OnTrue};
 ghost use Rattle.frontier.specs.Entries.{AreInPlace, AreMarked, IsAdded, IsFresh, TakesFirst, entries_at, entry_count};
@@ -21,10 +21,49 @@ fn empty_lists(alloc: Global, size: u32) -> Result<Vec<Vec<(u32, u64)>>, AllocEr
     Ok(lists)
 }
 
-/// Adds the entry at the end of the list. If memory runs out, each list is as it was.
+/// A list for more entries than these goes on in places that another one had, if there are any, and leaves its own to others.
+const FEW: usize = 64;
+
+/// Has the entries of a list go on in spare places, if there are any and it has few.
+#[inline(never)]
+fn widen(list: &mut Vec<(u32, u64)>, spares: &mut Vec<Vec<(u32, u64)>>)
+    ensures { list.new.items ≡ list.old.items }
+{
+    if list.capacity() > FEW {
+        return;
+    }
+    let Some(mut spare) = spares.pop() else {
+        return;
+    };
+    spare.clear();
+    if spare.append(list).is_ok() {
+        swap(list, &mut spare);
+    }
+}
+
+/// Adds the entry at the end of the list. If memory runs out, the list is as it was.
+#[inline(always)]
+fn push_to(
+    list: &mut Vec<(u32, u64)>,
+    spares: &mut Vec<Vec<(u32, u64)>>,
+    node: u32,
+    value: u64,
+) -> Result<(), AllocError>
+    ensures ok { OnOk result (list.new.items ≡ list.old.items ++ (node, value) ∷ []) }
+    ensures err { OnErr result (list.new.items ≡ list.old.items) }
+{
+    if list.len() == FEW {
+        widen(list, spares);
+    }
+    list.push((node, value))?;
+    Ok(())
+}
+
+/// Adds the entry at the end of the list of this number. If memory runs out, each list is as it was.
 #[inline(always)]
 fn push(
     lists: &mut Vec<Vec<(u32, u64)>>,
+    spares: &mut Vec<Vec<(u32, u64)>>,
     list: usize,
     node: u32,
     value: u64,
@@ -34,8 +73,20 @@ fn push(
     ensures err { OnErr result ((p : ℕ) → entries_at lists.new.items p ≡ entries_at lists.old.items p) }
     ensures len { length lists.new.items ≡ length lists.old.items }
 {
-    lists[list].push((node, value))?;
-    Ok(())
+    push_to(&mut lists[list], spares, node, value)
+}
+
+/// Sets the places of a list aside whose entries were taken, if they are many.
+#[inline(always)]
+fn set_aside(spares: &mut Vec<Vec<(u32, u64)>>, entries: &mut Vec<(u32, u64)>)
+    requires none { entries.old.items ≡ [] }
+    ensures none { entries.new.items ≡ [] }
+{
+    if entries.capacity() > FEW {
+        let mut emptied = Vec::new(*entries.allocator());
+        swap(&mut emptied, entries);
+        let _kept = spares.push(emptied).is_ok();
+    }
 }
 
 /// Swaps the entries of the list with these.
@@ -48,14 +99,25 @@ fn exchange(lists: &mut Vec<Vec<(u32, u64)>>, list: usize, entries: &mut Vec<(u3
     swap(&mut lists[list], entries);
 }
 
+/// How many entries these lists have room for, up to the greatest number of the type.
+fn places_of(lists: &[Vec<(u32, u64)>]) -> usize {
+    let mut places: usize = 0;
+    for list in lists {
+        places = places.saturating_add(list.capacity());
+    }
+    places
+}
+
 /// Entries, each a node with a value, in a ring of lists: the list of bucket `b` is at the place `b` modulo the number of lists. An entry stays in its list
-/// until its bucket is taken. It takes 24 bytes a list, and 16 for each place of a list that was ever in use at once.
+/// until its bucket is taken. It takes 24 bytes a list, and 16 for each entry that it had at once, or twice that; what a bucket of many entries took serves
+/// the next ones.
 #[derive(Drop)]
 pub struct EntryRing {
     pub(crate) delta: u32,
     pub(crate) last: u64,
     first: usize,
     pub(crate) lists: Vec<Vec<(u32, u64)>>,
+    spares: Vec<Vec<(u32, u64)>>,
     marks: Places,
     ghost positive: { 1 ≤ delta },
     ghost some: { 1 ≤ length lists.items },
@@ -82,17 +144,14 @@ impl EntryRing {
             last: 0,
             first: 0,
             lists,
+            spares: Vec::new(alloc),
             marks,
         })
     }
 
-    /// How many entries its lists have room for, up to the greatest number of the type.
+    /// How many entries its lists and its spare ones have room for, up to the greatest number of the type.
     pub fn places(&self) -> usize {
-        let mut places: usize = 0;
-        for list in &self.lists {
-            places = places.saturating_add(list.capacity());
-        }
-        places
+        places_of(&self.lists).saturating_add(places_of(&self.spares))
     }
 
     /// Whether a search that asks for buckets of this width, and for so many in a row, can begin with it: it has no entry, bucket 0 is the first that fits,
@@ -198,7 +257,7 @@ impl EntryRing {
         ensures last { self.new.last ≡ self.old.last }
     {
         let place = self.place(value);
-        push(&mut self.lists, place, node, value)?;
+        push(&mut self.lists, &mut self.spares, place, node, value)?;
         self.marks.insert(place);
         Ok(())
     }
@@ -222,6 +281,7 @@ impl EntryRing {
         };
         let size = self.size();
         let (bucket, place) = next_marked(&self.marks, size, self.last, self.first);
+        set_aside(&mut self.spares, entries);
         exchange(&mut self.lists, place, entries);
         self.marks.remove(place);
         self.last = bucket;

@@ -46,15 +46,15 @@ invariant_of-self c =
     let on_mark : (k : ℕ) → s.last ≤ k → k < s.last + length s.lists.items → k < 2 ^ 64 → place_bit s.marks (k % length s.lists.items) ≡ 1 → place_bit s.marks (c.next_marked-bucket.result.0 % length s.lists.items) ≡ 1 = rw (← size) told.marked in
     let at : c.next_marked-bucket.result.1 ≡ c.next_marked-bucket.result.0 % length s.lists.items = at_place is.bucket is.low is.high is.small is.on in
     let on : place_bit s.marks c.next_marked-bucket.result.1 ≡ 1 = ap (place_bit s.marks) at ∙ on_mark is.bucket is.low is.high is.small is.on in
-    let moved : c.exchange.new.lists.items ≡ set s.lists.items c.next_marked-bucket.result.1 c.args.entries.now = c.exchange.ensures.lists in
-    let long : length (set s.lists.items c.next_marked-bucket.result.1 c.args.entries.now) ≡ length s.lists.items = length-set s.lists.items place c.args.entries.now in
+    let moved : c.exchange.new.lists.items ≡ set s.lists.items c.next_marked-bucket.result.1 c.set_aside.new.entries = c.exchange.ensures.lists in
+    let long : length (set s.lists.items c.next_marked-bucket.result.1 c.set_aside.new.entries) ≡ length s.lists.items = length-set s.lists.items place c.set_aside.new.entries in
     let between : (k : ℕ) → s.last ≤ k → k < c.next_marked-bucket.result.0 → k < s.last + length s.lists.items → place_bit s.marks (k % length s.lists.items) ≡ 0 = rw (← size) told.between in
     record {
       positive = s.positive;
       some = rw (moved, long) s.some;
       begins = rw (moved, long) at;
-      marked = rw moved (AreMarked-taken s.delta s.last s.lists.items s.marks s.marked s.within b told.far between place at on c.args.entries.now c.requires.none c.exchange.new.entries.items c.exchange.ensures.entries c.remove.new.self c.remove.ensures.limit c.remove.ensures.member c.remove.ensures.others long);
-      within = rw moved (AreInPlace-taken s.delta s.last s.lists.items s.marks s.marked s.within b told.far between place at on c.args.entries.now c.requires.none c.exchange.new.entries.items c.exchange.ensures.entries);
+      marked = rw moved (AreMarked-taken s.delta s.last s.lists.items s.marks s.marked s.within b told.far between place at on c.set_aside.new.entries c.set_aside.ensures.none c.exchange.new.entries.items c.exchange.ensures.entries c.remove.new.self c.remove.ensures.limit c.remove.ensures.member c.remove.ensures.others long);
+      within = rw moved (AreInPlace-taken s.delta s.last s.lists.items s.marks s.marked s.within b told.far between place at on c.set_aside.new.entries c.set_aside.ensures.none c.exchange.new.entries.items c.exchange.ensures.entries);
     }
 
 pub returns-clause-taken : goal.returns-clause-taken
@@ -70,10 +70,10 @@ returns-clause-taken c =
     let on_mark : (k : ℕ) → s.last ≤ k → k < s.last + length s.lists.items → k < 2 ^ 64 → place_bit s.marks (k % length s.lists.items) ≡ 1 → place_bit s.marks (c.next_marked-bucket.result.0 % length s.lists.items) ≡ 1 = rw (← size) told.marked in
     let at : c.next_marked-bucket.result.1 ≡ c.next_marked-bucket.result.0 % length s.lists.items = at_place is.bucket is.low is.high is.small is.on in
     let on : place_bit s.marks c.next_marked-bucket.result.1 ≡ 1 = ap (place_bit s.marks) at ∙ on_mark is.bucket is.low is.high is.small is.on in
-    let moved : c.exchange.new.lists.items ≡ set s.lists.items c.next_marked-bucket.result.1 c.args.entries.now = c.exchange.ensures.lists in
-    let long : length (set s.lists.items c.next_marked-bucket.result.1 c.args.entries.now) ≡ length s.lists.items = length-set s.lists.items place c.args.entries.now in
+    let moved : c.exchange.new.lists.items ≡ set s.lists.items c.next_marked-bucket.result.1 c.set_aside.new.entries = c.exchange.ensures.lists in
+    let long : length (set s.lists.items c.next_marked-bucket.result.1 c.set_aside.new.entries) ≡ length s.lists.items = length-set s.lists.items place c.set_aside.new.entries in
     let between : (k : ℕ) → s.last ≤ k → k < c.next_marked-bucket.result.0 → k < s.last + length s.lists.items → place_bit s.marks (k % length s.lists.items) ≡ 0 = rw (← size) told.between in
-    rw moved (TakesFirst-exchanged s.delta s.last s.lists.items s.marks s.marked s.within b told.far between place at on c.args.entries.now c.requires.none c.exchange.new.entries.items c.exchange.ensures.entries)
+    rw moved (TakesFirst-exchanged s.delta s.last s.lists.items s.marks s.marked s.within b told.far between place at on c.set_aside.new.entries c.set_aside.ensures.none c.exchange.new.entries.items c.exchange.ensures.entries)
 
 pub returns-clause-none : goal.returns-clause-none
 returns-clause-none c =
@@ -88,7 +88,7 @@ returns-clause-none c =
     let on_mark : (k : ℕ) → s.last ≤ k → k < s.last + length s.lists.items → k < 2 ^ 64 → place_bit s.marks (k % length s.lists.items) ≡ 1 → place_bit s.marks (c.next_marked-bucket.result.0 % length s.lists.items) ≡ 1 = rw (← size) told.marked in
     let at : c.next_marked-bucket.result.1 ≡ c.next_marked-bucket.result.0 % length s.lists.items = at_place is.bucket is.low is.high is.small is.on in
     let on : place_bit s.marks c.next_marked-bucket.result.1 ≡ 1 = ap (place_bit s.marks) at ∙ on_mark is.bucket is.low is.high is.small is.on in
-    let moved : c.exchange.new.lists.items ≡ set s.lists.items c.next_marked-bucket.result.1 c.args.entries.now = c.exchange.ensures.lists in
-    let long : length (set s.lists.items c.next_marked-bucket.result.1 c.args.entries.now) ≡ length s.lists.items = length-set s.lists.items place c.args.entries.now in
+    let moved : c.exchange.new.lists.items ≡ set s.lists.items c.next_marked-bucket.result.1 c.set_aside.new.entries = c.exchange.ensures.lists in
+    let long : length (set s.lists.items c.next_marked-bucket.result.1 c.set_aside.new.entries) ≡ length s.lists.items = length-set s.lists.items place c.set_aside.new.entries in
     let between : (k : ℕ) → s.last ≤ k → k < c.next_marked-bucket.result.0 → k < s.last + length s.lists.items → place_bit s.marks (k % length s.lists.items) ≡ 0 = rw (← size) told.between in
-    rw moved (fewer_entries s.delta s.last s.lists.items s.marks s.marked s.within b told.far between place at on c.args.entries.now c.requires.none c.exchange.new.entries.items c.exchange.ensures.entries)
+    rw moved (fewer_entries s.delta s.last s.lists.items s.marks s.marked s.within b told.far between place at on c.set_aside.new.entries c.set_aside.ensures.none c.exchange.new.entries.items c.exchange.ensures.entries)

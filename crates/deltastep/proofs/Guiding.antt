@@ -1,24 +1,30 @@
 -- What a guided search keeps, and why what it finds is least.
-use Rattle.std.proofs.Common.{◌≡◌, ◌≢◌, ℕ, ◌+◌, ◌*◌, ◌/◌, ◌<◌, ◌≤◌, ◌^◌, ◌⊎◌, List, [], ◌∷◌, ◌++◌, length, set, Contains, IsSome, Option, Some, None, refl, sym, ap, subst, ◌∙◌, inl, inr, arith, unwrap_or, is_some, length-set, get_or-set_same, get_or-set_other, le_refl, le_trans, MatchOption, IfSome, Bool, true, false, IsTrue, ◌↔◌, div-mul-le_self, lt_of_le_of_lt}
+use Rattle.std.proofs.Common.{◌≡◌, ◌≢◌, ℕ, ◌+◌, ◌*◌, ◌/◌, ◌%◌, ◌<◌, ◌≤◌, ◌^◌, ◌⊎◌, List, [], ◌∷◌, ◌++◌, length, set, replicate, Contains, IsSome, Option, Some, None, refl, sym, ap, subst, ◌∙◌, inl, inr, arith, unwrap_or, length-set, get_or-set_same, get_or-set_other, le_refl, le_trans, MatchOption, IfSome, Bool, true, false, IsTrue, ◌↔◌, div-mul-le_self, lt_of_le_of_lt}
 use Rattle.relax.specs.Values.{value_at, value_or}
-use Rattle.std.specs.FinMap.{get, insert}
+use Rattle.std.specs.FinMap.{empty, get, insert, get-empty}
+use Rattle.std.specs.Ordering.{nat_cmp}
 use Rattle.std.proofs.lemmas.Bool.{cases_eq}
 use Rattle.std.proofs.lemmas.List.Sums.{sum_by-cons, sum_by-set}
 use Rattle.std.proofs.lemmas.List.Elements.{Contains-push_cases}
 use Rattle.std.proofs.lemmas.Nat.{le-div}
 use Rattle.std.proofs.Math.Nat.{mul-le-mul_right}
 use Rattle.snapshot.specs.Groups.{Groups, legs_of, IsGrouped}
-use Rattle.buckets.specs.Queue.{Entries, TakesLeast}
 use Rattle.snapshot.specs.declared.legs.Leg.{Leg}
 use Rattle.snapshot.specs.declared.legs.Part.{Part}
 use Rattle.snapshot.specs.declared.legs.Part.TheVariants.{Light, Heavy}
-use Rattle.deltastep.specs.Search.{top_of, Trip, trip_length, Reaches, IsRelaxedBut, IsBetweenBuckets, IsFinal, weight}
-use Rattle.deltastep.specs.Guided.{ConsistentIsLowerBound, IsKey, IsGuided, IsDone, IsLoweredTo, SearchGoesOn, IsBest}
+use Rattle.buckets.specs.Rings.{IsBucketWithin}
+use Rattle.frontier.specs.declared.keyed.KeyedRing.{KeyedRing}
+use Rattle.frontier.specs.Entries.{EntryLists, entries_at, entry_count}
+use Rattle.frontier.specs.Keyed.{IsPutInto, StandsAt, TakesBucket}
+use Rattle.deltastep.specs.declared.questions.guided.KeyedSearch.{KeyedSearch}
+use Rattle.deltastep.specs.Search.{top_of, Trip, trip_length, Reaches, IsRelaxedBut, IsBetweenBuckets}
+use Rattle.deltastep.specs.Guided.{ConsistentIsLowerBound, GoesOnTo, HasDone, IsStart, IsKey, IsGuided, IsLive, IsDone, IsUnderWayTo, KeepsWindow, LowersByKey, SearchGoesOn, IsBest, entry_weight, stands_in}
 use Rattle.deltastep.proofs.Division.{div-le_div}
 use Rattle.deltastep.proofs.Lowering.{value_or-some, value_or-set_same, value_or-set_other, value_or-set-le}
-use Rattle.frontier.proofs.Members.{Contains-nil, head_of, Contains-head_of}
-use Rattle.deltastep.proofs.Queues.{get-insert_same, get-insert_other, len-insert_le, stays_or_taken, value_in_bucket, get-outside_some}
+use Rattle.deltastep.proofs.Queues.{get-insert_other}
 use Rattle.deltastep.proofs.Relaxing.{Reaches-push}
+use Rattle.deltastep.proofs.Starting.{IsBetweenBuckets-first, blank, positive_top}
+use Rattle.frontier.proofs.Members.{Contains-head, Contains-nil}
 
 trip_length-cons : (leg : Leg) (legs : List Leg) → trip_length (leg ∷ legs) ≡ leg.length + trip_length legs
 trip_length-cons leg legs = sum_by-cons (λ (l : Leg). l.length) leg legs
@@ -30,26 +36,31 @@ consistent_is_lower_bound groups potential target consistent zero_there u (leg �
 
 -- ---- steps one after the other
 
-pub GoesOn-none : (groups : Groups) (target start : ℕ) (t : List (Option ℕ)) (queue : Entries) → SearchGoesOn groups target start t queue t queue
-GoesOn-none groups target start t queue = record {
+pub GoesOn-none : (groups : Groups) (target width start : ℕ) (t : List (Option ℕ)) (queue : ℕ → ℕ × ℕ → Type 0) (n : ℕ) → SearchGoesOn groups target width start t queue n t queue n
+GoesOn-none groups target width start t queue n = record {
   state = λ source h. h;
-  moves = λ u. inl (refl, refl);
+  moves = λ u. inl refl;
+  adds = λ b e h. h;
   falls = λ u. le_refl (value_or (top_of groups) t u);
   stays = λ u h. h;
-  weighs = le_refl (weight (top_of groups) t queue);
+  weighs = le_refl (entry_weight (top_of groups) t n);
 }
 
-module _ (groups : Groups) (target start : ℕ) (a : List (Option ℕ)) (p : Entries) (b : List (Option ℕ)) (q : Entries) (first : SearchGoesOn groups target start a p b q) where
-  pub GoesOn-then : (c : List (Option ℕ)) (r : Entries) → SearchGoesOn groups target start b q c r → SearchGoesOn groups target start a p c r
-  GoesOn-then c r next = record {
+IsLive-moved : (a b : List (Option ℕ)) (p q : ℕ → ℕ × ℕ → Type 0) (u : ℕ) → value_at b u ≡ value_at a u → ((k : ℕ) (e : ℕ × ℕ) → p k e → q k e) → IsLive a p u → IsLive b q u
+IsLive-moved a b p q u same adds is = record { value = is.value; has = same ∙ is.has; bucket = is.bucket; stands = adds is.bucket (u, is.value) is.stands }
+
+module _ (groups : Groups) (target width start : ℕ) (a : List (Option ℕ)) (p : ℕ → ℕ × ℕ → Type 0) (n : ℕ) (b : List (Option ℕ)) (q : ℕ → ℕ × ℕ → Type 0) (m : ℕ) (first : SearchGoesOn groups target width start a p n b q m) where
+  pub GoesOn-then : (c : List (Option ℕ)) (r : ℕ → ℕ × ℕ → Type 0) (k : ℕ) → SearchGoesOn groups target width start b q m c r k → SearchGoesOn groups target width start a p n c r k
+  GoesOn-then c r k next = record {
     state = λ source h. next.state source (first.state source h);
-    moves = λ u. elim (next.moves u) as (λ _. ((value_at c u ≡ value_at a u) × (get r u ≡ get p u)) ⊎ IsSome (get r u)) [
-      | inl same ↦ elim (first.moves u) as (λ _. ((value_at c u ≡ value_at a u) × (get r u ≡ get p u)) ⊎ IsSome (get r u)) [
-        | inl was ↦ inl (same.0 ∙ was.0, same.1 ∙ was.1)
-        | inr queued ↦ inr (subst (λ o. IsSome o) (sym same.1) queued)
+    moves = λ u. elim (next.moves u) as (λ _. (value_at c u ≡ value_at a u) ⊎ IsLive c r u) [
+      | inl same ↦ elim (first.moves u) as (λ _. (value_at c u ≡ value_at a u) ⊎ IsLive c r u) [
+        | inl was ↦ inl (same ∙ was)
+        | inr live ↦ inr (IsLive-moved b c q r u same next.adds live)
       ]
-      | inr queued ↦ inr queued
+      | inr live ↦ inr live
     ];
+    adds = λ d e h. next.adds d e (first.adds d e h);
     falls = λ u. le_trans (next.falls u) (first.falls u);
     stays = λ u h. next.stays u (first.stays u h);
     weighs = le_trans next.weighs first.weighs;
@@ -58,28 +69,27 @@ module _ (groups : Groups) (target start : ℕ) (a : List (Option ℕ)) (p : Ent
   -- what is done stays done
   pub IsDone-kept : (part : Part) (u : ℕ) → IsDone groups part a p u → IsDone groups part b q u
   IsDone-kept part u done = elim (first.moves u) as (λ _. IsDone groups part b q u) [
-    | inr queued ↦ inl queued
+    | inr live ↦ inl live
     | inl same ↦ elim done as (λ _. IsDone groups part b q u) [
-      | inl queued ↦ inl (subst (λ o. IsSome o) (sym same.1) queued)
+      | inl live ↦ inl (IsLive-moved a b p q u same first.adds live)
       | inr relaxed ↦ inr (λ leg c.
-          let now : value_or (top_of groups) b u ≡ value_or (top_of groups) a u = ap (λ o. unwrap_or o (top_of groups)) same.0 in
+          let now : value_or (top_of groups) b u ≡ value_or (top_of groups) a u = ap (λ o. unwrap_or o (top_of groups)) same in
           omega (arith, relaxed leg c, now, first.falls leg.head))
     ]
   ]
 
 -- ---- a node is lowered by way of a leg
 
--- the legs of a node that are met: the node is queued, or has its value still, and no leg of these leads to less than is known
-pub record HasMet (groups : Groups) (target start u x : ℕ) (legs : List Leg) (old : List (Option ℕ)) (queue : Entries) (new : List (Option ℕ)) (queue' : Entries) : Type 0 where
-  pub goes_on : SearchGoesOn groups target start old queue new queue'
-  pub met : IsSome (get queue' u) ⊎ ((value_or (top_of groups) new u ≡ x) × ((leg : Leg) → Contains legs leg → value_or (top_of groups) new leg.head ≤ x + leg.length))
+-- the legs of a node that are met: the node has a live entry, or has its value still, and no leg of these leads to less than is known
+pub record HasMet (groups : Groups) (target width start u x : ℕ) (legs : List Leg) (old : List (Option ℕ)) (queue : ℕ → ℕ × ℕ → Type 0) (n : ℕ) (new : List (Option ℕ)) (queue' : ℕ → ℕ × ℕ → Type 0) (n' : ℕ) : Type 0 where
+  pub goes_on : SearchGoesOn groups target width start old queue n new queue' n'
+  pub met : IsLive new queue' u ⊎ ((value_or (top_of groups) new u ≡ x) × ((leg : Leg) → Contains legs leg → value_or (top_of groups) new leg.head ≤ x + leg.length))
 
--- a put that lowers its node takes from the weight, whatever the key
-weight-keyed : (top : ℕ) (t : List (Option ℕ)) (queue : Entries) (node value key : ℕ) → node < length t → value < value_or top t node → weight top (set t node (Some value)) (insert queue node key) ≤ weight top t queue
-weight-keyed top t queue node value key within lower =
-    omega (arith, sum_by-set (λ o. unwrap_or o top) t node (Some value) None within, len-insert_le queue node key)
+-- an entry that lowers its node adds nothing to the weight
+weight-entry : (top : ℕ) (t : List (Option ℕ)) (node value n : ℕ) → node < length t → value < value_or top t node → entry_weight top (set t node (Some value)) (n + 1) ≤ entry_weight top t n
+weight-entry top t node value n within lower = omega (arith, sum_by-set (λ o. unwrap_or o top) t node (Some value) None within)
 
-module _ (groups : Groups) (grouped : IsGrouped groups) (target start : ℕ) (old : List (Option ℕ)) (queue : Entries) (part : Part) (u x : ℕ) (has : value_at old u ≡ Some x) (key : IsKey groups target old u start) (leg : Leg) (c : Contains (legs_of groups part u) leg) (through : ℕ) (through_is : through ≡ x + leg.length) where
+module _ (groups : Groups) (grouped : IsGrouped groups) (target width start : ℕ) (old : List (Option ℕ)) (queue : ℕ → ℕ × ℕ → Type 0) (n : ℕ) (part : Part) (u x : ℕ) (has : value_at old u ≡ Some x) (key : IsKey groups target old u start) (leg : Leg) (c : Contains (legs_of groups part u) leg) (through : ℕ) (through_is : through ≡ x + leg.length) where
   value_is : key.value ≡ x
   value_is = let e : Some key.value ≡ Some x = sym key.has ∙ has in let same : key.value ≡ x = cc in same
 
@@ -87,8 +97,8 @@ module _ (groups : Groups) (grouped : IsGrouped groups) (target start : ℕ) (ol
   start_below : (legs : List Leg) → Trip groups leg.head target legs → start ≤ through + trip_length legs
   start_below legs trip = omega (arith, key.below (leg ∷ legs) (part, c, trip), trip_length-cons leg legs, value_is, through_is)
 
-  module _ (t : List (Option ℕ)) (q : Entries) (k : ℕ) (small : k < 2 ^ 64) (within : leg.head < length t) (lower : through < value_or (top_of groups) t leg.head)
-      (below : (legs : List Leg) → Trip groups leg.head target legs → start ≤ through + trip_length legs → k ≤ through + trip_length legs) where
+  module _ (t : List (Option ℕ)) (q q' : ℕ → ℕ × ℕ → Type 0) (m k : ℕ) (small : k < 2 ^ 64) (within : leg.head < length t) (lower : through < value_or (top_of groups) t leg.head)
+      (below : (legs : List Leg) → Trip groups leg.head target legs → start ≤ through + trip_length legs → k ≤ through + trip_length legs) (put : IsPutInto q q' (k / width) (leg.head, through)) where
     after : List (Option ℕ)
     after = set t leg.head (Some through)
 
@@ -122,16 +132,23 @@ module _ (groups : Groups) (grouped : IsGrouped groups) (target start : ℕ) (ol
     IsKey-here : (v key' : ℕ) → v ≡ leg.head → ((legs : List Leg) → Trip groups leg.head target legs → key' ≤ through + trip_length legs) → IsKey groups target after v key'
     IsKey-here v key' e far = subst (λ w. IsKey groups target after w key') (sym e) (record { value = through; has = after-same; below = far })
 
-    queued_cases : (v k' : ℕ) → get (insert q leg.head k) v ≡ Some k' → ((v ≡ leg.head) × (k ≡ k')) ⊎ ((v ≢ leg.head) × (get q v ≡ Some k'))
-    queued_cases v k' now = elim (cases_eq v leg.head) as (λ _. ((v ≡ leg.head) × (k ≡ k')) ⊎ ((v ≢ leg.head) × (get q v ≡ Some k'))) [
-      | inl e ↦
-          let is : Some k ≡ Some k' = sym (subst (λ w. get (insert q leg.head k) w ≡ Some k) (sym e) (get-insert_same q leg.head k)) ∙ now in
-          let same : k ≡ k' = cc in
-          inl (e, same)
-      | inr ne ↦ inr (ne, sym (get-insert_other q leg.head k v ne) ∙ now)
-    ]
+    -- an entry of the queue afterwards
+    entry_cases : (b : ℕ) (e : ℕ × ℕ) → q' b e → q b e ⊎ ((b ≡ k / width) × ((leg.head, through) ≡ e))
+    entry_cases b e = (put b e).0
 
-    state : (source : ℕ) → Reaches groups source u x → IsGuided groups source target t q → IsGuided groups source target after (insert q leg.head k)
+    kept : (b : ℕ) (e : ℕ × ℕ) → q b e → q' b e
+    kept b e h = (put b e).1 (inl h)
+
+    live : IsLive after q' leg.head
+    live = record { value = through; has = after-same; bucket = k / width; stands = (put (k / width) (leg.head, through)).1 (inr (refl, refl)) }
+
+    key_start : k / width * width ≤ k
+    key_start = div-mul-le_self k width
+
+    put_start : IsStart groups target leg.head through (k / width * width)
+    put_start legs trip = omega (arith, key_start, below legs trip (start_below legs trip))
+
+    state : (source : ℕ) → Reaches groups source u x → IsGuided groups source target width t q → IsGuided groups source target width after q'
     unfolding after
     state source reaches was = record {
       places = length-set t leg.head (Some through) ∙ was.places;
@@ -147,81 +164,102 @@ module _ (groups : Groups) (grouped : IsGrouped groups) (target start : ℕ) (ol
           | inr other ↦ was.reached.reached v y other
         ];
       };
-      keys = λ v k' now. elim (queued_cases v k' now) as (λ _. IsKey groups target after v k') [
-        | inl here ↦ IsKey-here v k' here.0 (λ legs trip. omega (arith, here.1, below legs trip (start_below legs trip)))
-        | inr other ↦ IsKey-other v k' other.0 (was.keys v k' other.1)
+      nodes = λ b e h. elim (entry_cases b e h) as (λ _. (1 ≤ e.0) × (e.0 ≤ groups.nodes)) [
+        | inl old ↦ was.nodes b e old
+        | inr is ↦ subst (λ (f : ℕ × ℕ). (1 ≤ f.0) × (f.0 ≤ groups.nodes)) is.1 (grouped.low part u leg c, grouped.high part u leg c)
       ];
-      small = λ v k' now. elim (queued_cases v k' now) as (λ _. k' < 2 ^ 64) [ inl here ↦ omega (arith, here.1, small) | inr other ↦ was.small v k' other.1 ];
+      keys = λ b e h. elim (entry_cases b e h) as (λ _. IsStart groups target e.0 e.1 (b * width)) [
+        | inl old ↦ was.keys b e old
+        | inr is ↦ subst (λ d. IsStart groups target e.0 e.1 (d * width)) (sym is.0) (subst (λ (f : ℕ × ℕ). IsStart groups target f.0 f.1 (k / width * width)) is.1 put_start)
+      ];
+      small = λ b e h. elim (entry_cases b e h) as (λ _. b * width < 2 ^ 64) [
+        | inl old ↦ was.small b e old
+        | inr is ↦ subst (λ d. d * width < 2 ^ 64) (sym is.0) (omega (arith, key_start, small))
+      ];
     }
 
-    pub GoesOn-lowered : SearchGoesOn groups target start old queue t q → SearchGoesOn groups target start old queue (set t leg.head (Some through)) (insert q leg.head k)
+    pub GoesOn-lowered : SearchGoesOn groups target width start old queue n t q m → SearchGoesOn groups target width start old queue n (set t leg.head (Some through)) q' (m + 1)
     unfolding after
     GoesOn-lowered so_far = record {
       state = λ source h. state source (h.reached.reached u x has) (so_far.state source h);
-      moves = λ v. elim (cases_eq v leg.head) as (λ _. ((value_at after v ≡ value_at old v) × (get (insert q leg.head k) v ≡ get queue v)) ⊎ IsSome (get (insert q leg.head k) v)) [
-        | inl e ↦ inr (ap is_some (subst (λ w. get (insert q leg.head k) w ≡ Some k) (sym e) (get-insert_same q leg.head k)))
-        | inr ne ↦ elim (so_far.moves v) as (λ _. ((value_at after v ≡ value_at old v) × (get (insert q leg.head k) v ≡ get queue v)) ⊎ IsSome (get (insert q leg.head k) v)) [
-          | inl same ↦ inl (after-other v ne ∙ same.0, get-insert_other q leg.head k v ne ∙ same.1)
-          | inr queued ↦ inr (subst (λ o. IsSome o) (sym (get-insert_other q leg.head k v ne)) queued)
+      moves = λ v. elim (cases_eq v leg.head) as (λ _. (value_at after v ≡ value_at old v) ⊎ IsLive after q' v) [
+        | inl e ↦ inr (subst (λ w. IsLive after q' w) (sym e) live)
+        | inr ne ↦ elim (so_far.moves v) as (λ _. (value_at after v ≡ value_at old v) ⊎ IsLive after q' v) [
+          | inl same ↦ inl (after-other v ne ∙ same)
+          | inr was ↦ inr (IsLive-moved t after q q' v (after-other v ne) kept was)
         ]
       ];
+      adds = λ b e h. kept b e (so_far.adds b e h);
       falls = λ v. le_trans (value_or-set-le (top_of groups) t leg.head through v within lower) (so_far.falls v);
       stays = λ v is. elim (cases_eq v leg.head) as (λ _. IsKey groups target after v start) [
         | inl e ↦ IsKey-here v start e start_below
         | inr ne ↦ IsKey-other v start ne (so_far.stays v is)
       ];
-      weighs = le_trans (weight-keyed (top_of groups) t q leg.head through k within lower) so_far.weighs;
+      weighs = le_trans (weight-entry (top_of groups) t leg.head through m within lower) so_far.weighs;
     }
 
-  -- one leg more is met
-  pub HasMet-more : (legs : List Leg) (t : List (Option ℕ)) (q : Entries) → HasMet groups target start u x legs old queue t q → (end : ℕ) → end < 2 ^ 64 → leg.head < length t → (key : Option ℕ) (t' : List (Option ℕ)) (q' : Entries)
-      → MatchOption key (value_or (top_of groups) t leg.head ≤ through) (λ _. through < value_or (top_of groups) t leg.head)
-      → MatchOption key ((t' ≡ t) × (q' ≡ q)) (λ k. IsLoweredTo t q t' q' leg.head through k)
-      → IfSome key (λ k. k ≤ end)
-      → IfSome key (λ k. (legs : List Leg) → Trip groups leg.head target legs → start ≤ through + trip_length legs → k ≤ through + trip_length legs)
-      → HasMet groups target start u x (legs ++ leg ∷ []) old queue t' q'
-  HasMet-more legs t q so_far end small within None t' q' low same to below =
-      subst (λ s. HasMet groups target start u x (legs ++ leg ∷ []) old queue s q') (sym same.0) (subst (λ r. HasMet groups target start u x (legs ++ leg ∷ []) old queue t r) (sym same.1) (record {
-        goes_on = so_far.goes_on;
-        met = elim so_far.met as (λ _. IsSome (get q u) ⊎ ((value_or (top_of groups) t u ≡ x) × ((l : Leg) → Contains (legs ++ leg ∷ []) l → value_or (top_of groups) t l.head ≤ x + l.length))) [
-          | inl queued ↦ inl queued
+    pub HasMet-lowered : (legs : List Leg) → HasMet groups target width start u x legs old queue n t q m → HasMet groups target width start u x (legs ++ leg ∷ []) old queue n (set t leg.head (Some through)) q' (m + 1)
+    unfolding after
+    HasMet-lowered legs so_far = record {
+      goes_on = GoesOn-lowered so_far.goes_on;
+      met = elim (cases_eq u leg.head) as (λ _. IsLive after q' u ⊎ ((value_or (top_of groups) after u ≡ x) × ((l : Leg) → Contains (legs ++ leg ∷ []) l → value_or (top_of groups) after l.head ≤ x + l.length))) [
+        | inl e ↦ inl (subst (λ w. IsLive after q' w) (sym e) live)
+        | inr ne ↦ elim so_far.met as (λ _. IsLive after q' u ⊎ ((value_or (top_of groups) after u ≡ x) × ((l : Leg) → Contains (legs ++ leg ∷ []) l → value_or (top_of groups) after l.head ≤ x + l.length))) [
+          | inl was ↦ inl (IsLive-moved t after q q' u (after-other u ne) kept was)
           | inr met ↦ inr (
-            met.0,
-            λ l among. elim (Contains-push_cases legs leg l among) as (λ _. value_or (top_of groups) t l.head ≤ x + l.length) [
-              | inl before ↦ met.1 l before
-              | inr e ↦ subst (λ (l : Leg). value_or (top_of groups) t l.head ≤ x + l.length) e (omega (arith, low, through_is))
+            value_or-set_other (top_of groups) t leg.head through u ne ∙ met.0,
+            λ l among. elim (Contains-push_cases legs leg l among) as (λ _. value_or (top_of groups) after l.head ≤ x + l.length) [
+              | inl before ↦ le_trans (value_or-set-le (top_of groups) t leg.head through l.head within lower) (met.1 l before)
+              | inr e ↦ subst (λ (l : Leg). value_or (top_of groups) after l.head ≤ x + l.length) e (omega (arith, value_or-set_same (top_of groups) t leg.head through within, through_is))
             ],
           )
-        ];
-      }))
-  HasMet-more legs t q so_far end small within (Some k) t' q' lower changed to below =
-      subst (λ s. HasMet groups target start u x (legs ++ leg ∷ []) old queue s q') (sym changed.tentative) (subst (λ r. HasMet groups target start u x (legs ++ leg ∷ []) old queue (set t leg.head (Some through)) r) (sym changed.queued) (record {
-        goes_on = GoesOn-lowered t q k (omega (arith, to, small)) within lower below so_far.goes_on;
-        met = elim (cases_eq u leg.head) as (λ _. IsSome (get (insert q leg.head k) u) ⊎ ((value_or (top_of groups) (set t leg.head (Some through)) u ≡ x) × ((l : Leg) → Contains (legs ++ leg ∷ []) l → value_or (top_of groups) (set t leg.head (Some through)) l.head ≤ x + l.length))) [
-          | inl e ↦ inl (ap is_some (subst (λ w. get (insert q leg.head k) w ≡ Some k) (sym e) (get-insert_same q leg.head k)))
-          | inr ne ↦ elim so_far.met as (λ _. IsSome (get (insert q leg.head k) u) ⊎ ((value_or (top_of groups) (set t leg.head (Some through)) u ≡ x) × ((l : Leg) → Contains (legs ++ leg ∷ []) l → value_or (top_of groups) (set t leg.head (Some through)) l.head ≤ x + l.length))) [
-            | inl queued ↦ inl (subst (λ o. IsSome o) (sym (get-insert_other q leg.head k u ne)) queued)
-            | inr met ↦ inr (
-              value_or-set_other (top_of groups) t leg.head through u ne ∙ met.0,
-              λ l among. elim (Contains-push_cases legs leg l among) as (λ _. value_or (top_of groups) (set t leg.head (Some through)) l.head ≤ x + l.length) [
-                | inl before ↦ le_trans (value_or-set-le (top_of groups) t leg.head through l.head within lower) (met.1 l before)
-                | inr e ↦ subst (λ (l : Leg). value_or (top_of groups) (set t leg.head (Some through)) l.head ≤ x + l.length) e (omega (arith, value_or-set_same (top_of groups) t leg.head through within, through_is))
-              ],
-            )
-          ]
-        ];
-      }))
+        ]
+      ];
+    }
 
-pub HasMet-none : (groups : Groups) (target start u x : ℕ) (t : List (Option ℕ)) (queue : Entries) → value_at t u ≡ Some x → HasMet groups target start u x [] t queue t queue
-HasMet-none groups target start u x t queue has = record {
-  goes_on = GoesOn-none groups target start t queue;
+  -- a leg that lowers nothing is met
+  pub HasMet-kept : (legs : List Leg) (t : List (Option ℕ)) (q : ℕ → ℕ × ℕ → Type 0) (m : ℕ) → HasMet groups target width start u x legs old queue n t q m → value_or (top_of groups) t leg.head ≤ through → HasMet groups target width start u x (legs ++ leg ∷ []) old queue n t q m
+  HasMet-kept legs t q m so_far low = record {
+    goes_on = so_far.goes_on;
+    met = elim so_far.met as (λ _. IsLive t q u ⊎ ((value_or (top_of groups) t u ≡ x) × ((l : Leg) → Contains (legs ++ leg ∷ []) l → value_or (top_of groups) t l.head ≤ x + l.length))) [
+      | inl live ↦ inl live
+      | inr met ↦ inr (
+        met.0,
+        λ l among. elim (Contains-push_cases legs leg l among) as (λ _. value_or (top_of groups) t l.head ≤ x + l.length) [
+          | inl before ↦ met.1 l before
+          | inr e ↦ subst (λ (l : Leg). value_or (top_of groups) t l.head ≤ x + l.length) e (omega (arith, low, through_is))
+        ],
+      )
+    ];
+  }
+
+  -- one leg more is met
+  pub HasMet-more : (legs : List Leg) (s s' : KeyedSearch) → s.ring.delta ≡ width → HasMet groups target width start u x legs old queue n s.tentative (stands_in s.ring) (entry_count s.ring.lists.items) → leg.head < length s.tentative → (end : ℕ) → end < 2 ^ 64 → (key : Option ℕ)
+      → MatchOption key (value_or (top_of groups) s.tentative leg.head ≤ through) (λ _. through < value_or (top_of groups) s.tentative leg.head)
+      → LowersByKey leg.head through s s' key
+      → IfSome key (λ k. k ≤ end)
+      → IfSome key (λ k. (legs : List Leg) → Trip groups leg.head target legs → start ≤ through + trip_length legs → k ≤ through + trip_length legs)
+      → HasMet groups target width start u x (legs ++ leg ∷ []) old queue n s'.tentative (stands_in s'.ring) (entry_count s'.ring.lists.items)
+  HasMet-more legs s s' wide so_far within end small None low same to below =
+      subst (λ t. HasMet groups target width start u x (legs ++ leg ∷ []) old queue n t (stands_in s'.ring) (entry_count s'.ring.lists.items)) (sym same.0)
+      (subst (λ (r : KeyedRing). HasMet groups target width start u x (legs ++ leg ∷ []) old queue n s.tentative (stands_in r) (entry_count r.lists.items)) (sym same.1)
+      (HasMet-kept legs s.tentative (stands_in s.ring) (entry_count s.ring.lists.items) so_far low))
+  HasMet-more legs s s' wide so_far within end small (Some k) lower changed to below =
+      let put : IsPutInto (stands_in s.ring) (stands_in s'.ring) (k / width) (leg.head, through) = subst (λ w. IsPutInto (stands_in s.ring) (stands_in s'.ring) (k / w) (leg.head, through)) wide changed.queued in
+      subst (λ t. HasMet groups target width start u x (legs ++ leg ∷ []) old queue n t (stands_in s'.ring) (entry_count s'.ring.lists.items)) (sym changed.tentative)
+      (subst (λ m. HasMet groups target width start u x (legs ++ leg ∷ []) old queue n (set s.tentative leg.head (Some through)) (stands_in s'.ring) m) (sym changed.more)
+      (HasMet-lowered s.tentative (stands_in s.ring) (stands_in s'.ring) (entry_count s.ring.lists.items) k (omega (arith, to, small)) within lower below put legs so_far))
+
+pub HasMet-none : (groups : Groups) (target width start u x : ℕ) (t : List (Option ℕ)) (queue : ℕ → ℕ × ℕ → Type 0) (n : ℕ) → value_at t u ≡ Some x → HasMet groups target width start u x [] t queue n t queue n
+HasMet-none groups target width start u x t queue n has = record {
+  goes_on = GoesOn-none groups target width start t queue n;
   met = inr (value_or-some (top_of groups) t u x has, λ l among. absurd (Contains-nil l among));
 }
 
 -- where all legs of the part are met, it is done
-pub IsDone-met : (groups : Groups) (target start u x : ℕ) (part : Part) (legs : List Leg) (old : List (Option ℕ)) (queue : Entries) (new : List (Option ℕ)) (queue' : Entries) → HasMet groups target start u x legs old queue new queue' → legs ≡ legs_of groups part u → IsDone groups part new queue' u
-IsDone-met groups target start u x part legs old queue new queue' has all = elim has.met as (λ _. IsDone groups part new queue' u) [
-  | inl queued ↦ inl queued
+pub IsDone-met : (groups : Groups) (target width start u x : ℕ) (part : Part) (legs : List Leg) (old : List (Option ℕ)) (queue : ℕ → ℕ × ℕ → Type 0) (n : ℕ) (new : List (Option ℕ)) (queue' : ℕ → ℕ × ℕ → Type 0) (n' : ℕ) → HasMet groups target width start u x legs old queue n new queue' n' → legs ≡ legs_of groups part u → IsDone groups part new queue' u
+IsDone-met groups target width start u x part legs old queue n new queue' n' has all = elim has.met as (λ _. IsDone groups part new queue' u) [
+  | inl live ↦ inl live
   | inr met ↦ inr (λ leg c. omega (arith, met.0, met.1 leg (subst (λ ls. Contains ls leg) (sym all) c)))
 ]
 
@@ -233,92 +271,109 @@ value_of_key groups target u key t found x is e e' =
 
 -- ---- what is known at the end
 
--- where each node is queued or relaxed, and no key is below the target's value, that is least
-pub IsBest-final : (groups : Groups) (source target : ℕ) (t : List (Option ℕ)) (queue : Entries) → IsGuided groups source target t queue → ((part : Part) (u : ℕ) → IsDone groups part t queue u) → IsFinal groups t queue target → IsBest groups t target
-IsBest-final groups source target t queue guided done final u [] e = subst (λ w. value_or (top_of groups) t w ≤ value_or (top_of groups) t u + 0) e (omega arith)
-IsBest-final groups source target t queue guided done final u (leg ∷ legs) (part, c, trip) =
+-- where each node has a live entry or is relaxed, and no entry stands before the target's value, that is least
+pub IsBest-final : (groups : Groups) (source target width : ℕ) (t : List (Option ℕ)) (queue : ℕ → ℕ × ℕ → Type 0) → IsGuided groups source target width t queue → ((part : Part) (u : ℕ) → IsDone groups part t queue u) → ((b : ℕ) (e : ℕ × ℕ) → queue b e → value_or (top_of groups) t target ≤ b * width) → IsBest groups t target
+IsBest-final groups source target width t queue guided done final u [] e = subst (λ w. value_or (top_of groups) t w ≤ value_or (top_of groups) t u + 0) e (omega arith)
+IsBest-final groups source target width t queue guided done final u (leg ∷ legs) (part, c, trip) =
     elim (done part u) as (λ _. value_or (top_of groups) t target ≤ value_or (top_of groups) t u + trip_length (leg ∷ legs)) [
-      | inl queued ↦ elim (get queue u) as (λ o. get queue u ≡ o → IsSome o → value_or (top_of groups) t target ≤ value_or (top_of groups) t u + trip_length (leg ∷ legs)) [
-        | None ↦ λ e h. absurd (let absurdity : ⊥ = cc in absurdity)
-        | Some k ↦ λ e h.
-            let is = guided.keys u k e in
-            omega (arith, final u k e, is.below (leg ∷ legs) (part, c, trip), value_or-some (top_of groups) t u is.value is.has)
-      ] refl queued
-      | inr known ↦ omega (arith, IsBest-final groups source target t queue guided done final leg.head legs trip, known leg c, trip_length-cons leg legs)
+      | inl live ↦ omega (arith, final live.bucket (u, live.value) live.stands, guided.keys live.bucket (u, live.value) live.stands (leg ∷ legs) (part, c, trip), value_or-some (top_of groups) t u live.value live.has)
+      | inr known ↦ omega (arith, IsBest-final groups source target width t queue guided done final leg.head legs trip, known leg c, trip_length-cons leg legs)
     ]
 
 -- ---- a bucket is taken
-module _ (groups : Groups) (target width : ℕ) (t : List (Option ℕ)) (old : Entries) (b : ℕ) (taken : List ℕ) (new : Entries) (takes : TakesLeast width old b taken new) where
-  was : (u k : ℕ) → get new u ≡ Some k → get old u ≡ Some k
-  was u k e = get-outside_some width b old u k (subst (λ m. get m u ≡ Some k) takes.rest e)
-
-  pub IsGuided-taken : (source : ℕ) → IsGuided groups source target t old → IsGuided groups source target t new
+module _ (groups : Groups) (target width : ℕ) (t : List (Option ℕ)) (old new : ℕ → ℕ × ℕ → Type 0) (b : ℕ) (taken : List (ℕ × ℕ)) (takes : TakesBucket old new b taken) where
+  pub IsGuided-taken : (source : ℕ) → IsGuided groups source target width t old → IsGuided groups source target width t new
   IsGuided-taken source guided = record {
     places = guided.places;
     node = guided.node;
     below_top = guided.below_top;
     reached = guided.reached;
-    keys = λ u k e. guided.keys u k (was u k e);
-    small = λ u k e. guided.small u k (was u k e);
+    nodes = λ d e h. guided.nodes d e ((takes.rest d e).0 h).0;
+    keys = λ d e h. guided.keys d e ((takes.rest d e).0 h).0;
+    small = λ d e h. guided.small d e ((takes.rest d e).0 h).0;
   }
 
-  -- what is taken has keys from the start of the bucket on
-  pub IsKey-taken : (source : ℕ) → IsGuided groups source target t old → (u : ℕ) → Contains taken u → IsKey groups target t u (b * width)
-  IsKey-taken source guided u c =
-      let v = value_in_bucket width b old u (subst (λ ks. Contains ks u) takes.nodes c) in
-      let is = guided.keys u v.0 v.1 in
-      let from : v.0 / width * width ≤ v.0 = div-mul-le_self v.0 width in
-      let start : b * width ≤ v.0 = subst (λ n. n * width ≤ v.0) v.2 from in
-      record { value = is.value; has = is.has; below = λ legs trip. omega (arith, start, is.below legs trip) }
+  -- no entry stands before the start of the bucket
+  pub starts_at : (d : ℕ) (e : ℕ × ℕ) → old d e → b * width ≤ d * width
+  starts_at d e h = mul-le-mul_right width (takes.least d e h)
 
-  -- no key is below the start of the bucket
-  pub IsFinal-taken : value_or (top_of groups) t target ≤ b * width → IsFinal groups t old target
-  IsFinal-taken low u k e =
-      let from : k / width * width ≤ k = div-mul-le_self k width in
-      let more : b * width ≤ k / width * width = mul-le-mul_right width (takes.least u k e) in
-      omega (arith, from, more, low)
-
-  pub IsDone-taken : (part : Part) → ((u : ℕ) → IsDone groups part t old u) → (u : ℕ) → Contains taken u ⊎ IsDone groups part t new u
-  IsDone-taken part done u = elim (done u) as (λ _. Contains taken u ⊎ IsDone groups part t new u) [
-    | inl queued ↦ elim (stays_or_taken width b old u queued) as (λ _. Contains taken u ⊎ IsDone groups part t new u) [
-      | inl stays ↦ inr (inl (subst (λ m. IsSome (get m u)) (sym takes.rest) stays))
-      | inr c ↦ inl (subst (λ ks. Contains ks u) (sym takes.nodes) c)
-    ]
+  -- what is done, but for the nodes of the live entries that are taken
+  pub IsDone-taken : (part : Part) (u : ℕ) → IsDone groups part t old u → ((x : ℕ) × (value_at t u ≡ Some x) × Contains taken (u, x)) ⊎ IsDone groups part t new u
+  IsDone-taken part u done = elim done as (λ _. ((x : ℕ) × (value_at t u ≡ Some x) × Contains taken (u, x)) ⊎ IsDone groups part t new u) [
     | inr relaxed ↦ inr (inr relaxed)
+    | inl live ↦ elim (cases_eq live.bucket b) as (λ _. ((x : ℕ) × (value_at t u ≡ Some x) × Contains taken (u, x)) ⊎ IsDone groups part t new u) [
+      | inl e ↦ inl (live.value, live.has, (takes.all (u, live.value)).1 (subst (λ d. old d (u, live.value)) e live.stands))
+      | inr ne ↦ inr (inl (record { value = live.value; has = live.has; bucket = live.bucket; stands = (takes.rest live.bucket (u, live.value)).1 (live.stands, ne) }))
+    ]
   ]
 
-  -- the start of a bucket is a number of 64 bits
-  pub start_small : ((u k : ℕ) → get old u ≡ Some k → k < 2 ^ 64) → b * width < 2 ^ 64
-  start_small small =
-      let first : Contains taken (head_of taken) = Contains-head_of taken takes.some_node in
-      let v = value_in_bucket width b old (head_of taken) (subst (λ ks. Contains ks (head_of taken)) takes.nodes first) in
-      let from : v.0 / width * width ≤ v.0 = div-mul-le_self v.0 width in
-      let start : b * width ≤ v.0 = subst (λ n. n * width ≤ v.0) v.2 from in
-      omega (arith, start, small (head_of taken) v.0 v.1)
+pub some_entry : (xs : List (ℕ × ℕ)) → 0 < length xs → (e : ℕ × ℕ) × Contains xs e
+some_entry [] some = absurd (omega arith)
+some_entry (x ∷ xs) some = (x, Contains-head x xs)
 
 -- what lies from the start of a bucket on, and up to the end of the window, fits
-pub window_fits : (accepts : ℕ → Type 0) (b span width end : ℕ) → 1 ≤ width → end / width < b + span → ((v : ℕ) → b ≤ v / width → v / width < b + span → accepts v) → (v : ℕ) → b * width ≤ v → v ≤ end → accepts v
-window_fits accepts b span width end positive to fits v from until = fits v (le-div b v width positive from) (lt_of_le_of_lt (div-le_div v end width positive until) to)
+pub window_fits : (b size width end : ℕ) → 1 ≤ width → end / width < b + size → (v : ℕ) → b * width ≤ v → v ≤ end → IsBucketWithin b size (v / width)
+window_fits b size width end positive to v from until = (le-div b v width positive from, lt_of_le_of_lt (div-le_div v end width positive until) to)
 
--- before the first bucket is taken
-pub IsGuided-between : (groups : Groups) (source target : ℕ) (t : List (Option ℕ)) (queue : Entries) → top_of groups ≤ 2 ^ 56 → IsBetweenBuckets groups source t queue → IsGuided groups source target t queue
-IsGuided-between groups source target t queue small between = record {
-  places = between.search.places;
-  node = between.search.node;
-  below_top = between.search.below_top;
-  reached = between.reached;
-  keys = λ u k e. record { value = k; has = between.search.queued u k e; below = λ legs trip. omega arith };
-  small = λ u k e. omega (arith, between.search.below_top u k (between.search.queued u k e), small);
-}
+-- ---- before the first bucket is taken
 
-pub IsDone-between : (groups : Groups) (source : ℕ) (t : List (Option ℕ)) (queue : Entries) → IsBetweenBuckets groups source t queue → (part : Part) (u : ℕ) → IsDone groups part t queue u
-IsDone-between groups source t queue between part u = elim (relaxed u) as (λ _. IsDone groups part t queue u) [
-  | inl queued ↦ inl queued
-  | inr rest ↦ elim rest as (λ _. IsDone groups part t queue u) [ inl owes ↦ absurd (Contains-nil u owes) | inr known ↦ inr known ]
-]
-  where
-    relaxed : IsRelaxedBut groups part t queue []
-    relaxed = elim part as (λ p. IsRelaxedBut groups p t queue []) [ Light ↦ between.light | Heavy ↦ between.heavy ]
+none_is_none : (o : Option ℕ) → o ≡ None → IsSome o → ⊥
+none_is_none None e h = absurd (let absurdity : ⊥ = cc in absurdity)
+none_is_none (Some x) e h = absurd (let absurdity : ⊥ = cc in absurdity)
+
+-- nothing stands in empty lists
+pub nothing_stands : (last : ℕ) (lists : EntryLists) → ((p : ℕ) → entries_at lists p ≡ []) → (b : ℕ) (e : ℕ × ℕ) → StandsAt last lists b e → ⊥
+nothing_stands last lists none b e at = Contains-nil e (subst (λ (l : List (ℕ × ℕ)). Contains l e) (none (b % length lists)) at.member)
+
+pub put_first : (old new : ℕ → ℕ × ℕ → Type 0) (b : ℕ) (e : ℕ × ℕ) → ((c : ℕ) (f : ℕ × ℕ) → old c f → ⊥) → IsPutInto old new b e → IsPutInto (λ c f. ⊥) new b e
+put_first old new b e none put c f = (λ h. elim ((put c f).0 h) as (λ _. ⊥ ⊎ ((c ≡ b) × (e ≡ f))) [ inl was ↦ inl (none c f was) | inr is ↦ inr is ], λ either. elim either as (λ _. new c f) [ inl was ↦ absurd was | inr is ↦ (put c f).1 (inr is) ])
+
+module _ (groups : Groups) (source : ℕ) (low : 1 ≤ source) (high : source ≤ groups.nodes) (width : ℕ) (queue : ℕ → ℕ × ℕ → Type 0) (put : IsPutInto (λ b e. ⊥) queue (0 / width) (source, 0)) where
+  first : List (Option ℕ)
+  first = set (replicate (groups.nodes + 1) None) source (Some 0)
+
+  settled : IsBetweenBuckets groups source first (insert empty source 0)
+  unfolding first
+  settled =
+      let unknown : value_or (top_of groups) (replicate (groups.nodes + 1) None) source ≡ top_of groups = ap (λ o. unwrap_or o (top_of groups)) (blank (groups.nodes + 1) source) in
+      IsBetweenBuckets-first groups source low high (replicate (groups.nodes + 1) None) first (insert empty source 0) empty true refl refl (omega (arith, unknown, positive_top groups)) refl refl
+
+  only : (b : ℕ) (e : ℕ × ℕ) → queue b e → (b * width ≤ 0) × ((source, 0) ≡ e)
+  only b e h = elim ((put b e).0 h) as (λ _. (b * width ≤ 0) × ((source, 0) ≡ e)) [
+    | inl was ↦ absurd was
+    | inr is ↦ (subst (λ d. d * width ≤ 0) (sym is.0) (div-mul-le_self 0 width), is.1)
+  ]
+
+  guided_first : (target : ℕ) → IsGuided groups source target width first queue
+  guided_first target = record {
+    places = settled.search.places;
+    node = settled.search.node;
+    below_top = settled.search.below_top;
+    reached = settled.reached;
+    nodes = λ b e h. subst (λ (f : ℕ × ℕ). (1 ≤ f.0) × (f.0 ≤ groups.nodes)) (only b e h).1 (low, high);
+    keys = λ b e h legs trip. omega (arith, (only b e h).0);
+    small = λ b e h. omega (arith, (only b e h).0);
+  }
+
+  done_first : (part : Part) (u : ℕ) → IsDone groups part first queue u
+  done_first part u = elim (relaxed part u) as (λ _. IsDone groups part first queue u) [
+    | inl queued ↦ elim (cases_eq u source) as (λ _. IsDone groups part first queue u) [
+      | inl e ↦ inl (subst (λ w. IsLive first queue w) (sym e) (record { value = 0; has = settled.reached.starts; bucket = 0 / width; stands = (put (0 / width) (source, 0)).1 (inr (refl, refl)) }))
+      | inr ne ↦ absurd (none_is_none (get (insert empty source 0) u) (get-insert_other empty source 0 u ne ∙ get-empty nat_cmp u) queued)
+    ]
+    | inr rest ↦ elim rest as (λ _. IsDone groups part first queue u) [ inl owes ↦ absurd (Contains-nil u owes) | inr known ↦ inr known ]
+  ]
+    where
+      relaxed : (p : Part) → IsRelaxedBut groups p first (insert empty source 0) []
+      relaxed p = elim p as (λ p. IsRelaxedBut groups p first (insert empty source 0) []) [ Light ↦ settled.light | Heavy ↦ settled.heavy ]
+
+  pub IsGuided-first : (t : List (Option ℕ)) → t ≡ set (replicate (groups.nodes + 1) None) source (Some 0) → (target : ℕ) → IsGuided groups source target width t queue
+  unfolding first
+  IsGuided-first t e target = subst (λ s. IsGuided groups source target width s queue) (sym e) (guided_first target)
+
+  pub IsDone-first : (t : List (Option ℕ)) → t ≡ set (replicate (groups.nodes + 1) None) source (Some 0) → (part : Part) (u : ℕ) → IsDone groups part t queue u
+  unfolding first
+  IsDone-first t e part u = subst (λ s. IsDone groups part s queue u) (sym e) (done_first part u)
 
 -- what a guide says of the keys, of the snapshot at hand
 pub known_below : (knows : Groups → Type 0) (groups : Groups) (target start node through : ℕ) → knows groups → IsGrouped groups → 1 ≤ node → node ≤ groups.nodes → (key : Option ℕ)
@@ -335,7 +390,35 @@ value_at_most groups t v most within test passed =
       | Some value ↦ λ some here. omega (arith, here.0 passed, value_or-some (top_of groups) t v value some)
     ] refl test
 
--- each value is below 2 ^ 56
-pub top_small : (groups : Groups) → IsGrouped groups → top_of groups ≤ 2 ^ 56
-unfolding top_of
-top_small groups grouped = omega (arith, grouped.nodes)
+-- ---- of a search by keys
+
+pub KeepsWindow-none : (a : KeyedRing) → KeepsWindow a a
+KeepsWindow-none a = record { width = refl; last = refl; size = refl }
+
+pub KeepsWindow-then : (a b c : KeyedRing) → KeepsWindow a b → KeepsWindow b c → KeepsWindow a c
+KeepsWindow-then a b c first next = record { width = next.width ∙ first.width; last = next.last ∙ first.last; size = next.size ∙ first.size }
+
+pub fits_kept : (a b : KeyedRing) (start end : ℕ) → KeepsWindow a b → ((v : ℕ) → start ≤ v → v ≤ end → IsBucketWithin a.last (length a.lists.items) (v / a.delta)) → (v : ℕ) → start ≤ v → v ≤ end → IsBucketWithin b.last (length b.lists.items) (v / b.delta)
+fits_kept a b start end keeps fits v low high =
+    subst (λ d. IsBucketWithin b.last (length b.lists.items) (v / d)) (sym keeps.width)
+    (subst (λ n. IsBucketWithin b.last n (v / a.delta)) (sym keeps.size)
+    (subst (λ l. IsBucketWithin l (length a.lists.items) (v / a.delta)) (sym keeps.last) (fits v low high)))
+
+module _ (groups : Groups) (target start : ℕ) (old mid : KeyedSearch) (keeps : KeepsWindow old.ring mid.ring) (first : GoesOnTo groups target start old mid) where
+  pub under_way : (source : ℕ) → IsUnderWayTo groups source target old → IsUnderWayTo groups source target mid
+  under_way source h = subst (λ w. IsGuided groups source target w mid.tentative (stands_in mid.ring)) (sym keeps.width) (first.state source h)
+
+  pub GoesOnTo-then : (new : KeyedSearch) → GoesOnTo groups target start mid new → GoesOnTo groups target start old new
+  GoesOnTo-then new next =
+      GoesOn-then groups target old.ring.delta start old.tentative (stands_in old.ring) (entry_count old.ring.lists.items) mid.tentative (stands_in mid.ring) (entry_count mid.ring.lists.items) first new.tentative (stands_in new.ring) (entry_count new.ring.lists.items)
+      (subst (λ w. SearchGoesOn groups target w start mid.tentative (stands_in mid.ring) (entry_count mid.ring.lists.items) new.tentative (stands_in new.ring) (entry_count new.ring.lists.items)) keeps.width next)
+
+  pub HasDone-kept : (part : Part) (u : ℕ) → HasDone groups part old u → HasDone groups part mid u
+  HasDone-kept part u done = IsDone-kept groups target old.ring.delta start old.tentative (stands_in old.ring) (entry_count old.ring.lists.items) mid.tentative (stands_in mid.ring) (entry_count mid.ring.lists.items) first part u done
+
+  -- a node of an entry that was done as long as that was live
+  pub HasDone-live : (part : Part) (u x : ℕ) → (value_at old.tentative u ≡ Some x → HasDone groups part old u) → value_at mid.tentative u ≡ Some x → HasDone groups part mid u
+  HasDone-live part u x done now = elim (first.moves u) as (λ _. HasDone groups part mid u) [
+    | inl same ↦ HasDone-kept part u (done (sym same ∙ now))
+    | inr live ↦ inl live
+  ]

@@ -12,13 +12,13 @@ use Rattle.snapshot.specs.declared.legs.Part.{Part}
 use Rattle.snapshot.specs.declared.legs.Part.TheVariants.{Light, Heavy}
 use Rattle.deltastep.proofs.Queues.{get-insert_same, get-insert_other}
 
-blank : (n u : ℕ) → value_at (replicate n None) u ≡ None
+pub blank : (n u : ℕ) → value_at (replicate n None) u ≡ None
 blank n u = elim (cases_lt u n) as (λ _. value_at (replicate n None) u ≡ None) [
   | inl lt ↦ get_or-replicate n u None None lt
   | inr past ↦ get_or_past (replicate n None) u None (omega (arith, length-replicate {A = Option ℕ} n None))
 ]
 
-positive_top : (groups : Groups) → 0 < top_of groups
+pub positive_top : (groups : Groups) → 0 < top_of groups
 unfolding top_of
 positive_top groups = omega arith
 

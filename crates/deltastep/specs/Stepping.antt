@@ -3,14 +3,11 @@ use Rattle.std.specs.Prelude.{◌≡◌, ℕ, ◌<◌, ◌≤◌, Bool, List, []
 use Rattle.std.specs.FinMap as map
 use Rattle.snapshot.specs.Groups.{Groups}
 use Rattle.snapshot.specs.declared.legs.Part.{Part}
-use Rattle.buckets.specs.declared.queue.BucketQueue.{Ghosts as QueueGhosts}
 use Rattle.buckets.specs.Queue.{Entries}
 use Rattle.frontier.specs.declared.frontier.Frontier.{Ghosts}
 use Rattle.frontier.specs.Frontier.{TakesAny}
-use Rattle.deltastep.specs.declared.questions.guided.KeyedSearch.{KeyedSearch}
 use Rattle.deltastep.specs.declared.searches.search.Search.{Search}
 use Rattle.deltastep.specs.Search.{AreInBucket, AreLater, AreLive, AreLiveFrom, AreReached, FitsFrom, HasQueued, IsBetweenBuckets, IsBucketEmpty, IsRelaxedBut, IsSearch, IsSuited, MeetsRequests, weight}
-use Rattle.deltastep.specs.Guided.{IsLoweredTo}
 
 -- ---- a search
 
@@ -89,11 +86,6 @@ MeetsOneMore q top request old new =
 -- it queues a node with a value, or leaves the queue as it is
 abbrev pub QueuesWhere : {F : Type 0} → Ghosts F → Bool → ℕ → ℕ → Search F → Search F → Type 0
 QueuesWhere q lowers node value old new = MatchBool lowers (q.entries new.frontier ≡ map.insert (q.entries old.frontier) node value) (q.entries new.frontier ≡ q.entries old.frontier)
-
--- .. by a key, which it gives where it lowers the node's value to this one
-abbrev pub LowersByKey : {Q : Type 0} → QueueGhosts Q → ℕ → ℕ → KeyedSearch Q → KeyedSearch Q → Option ℕ → Type 0
-LowersByKey q node value old new key =
-    MatchOption key ((new.tentative ≡ old.tentative) × (q.entries new.buckets ≡ q.entries old.buckets)) (λ k. IsLoweredTo old.tentative (q.entries old.buckets) new.tentative (q.entries new.buckets) node value k)
 
 -- ---- a taking
 

@@ -165,16 +165,6 @@ module _ (width last : ℕ) (lists : EntryLists) (marks : List ℕ) (full : AreM
           least = least_entry;
         }
 
-    pub fewer_entries : entry_count (set lists place none) < entry_count lists
-    fewer_entries =
-        let lt : place < length lists = marked_within lists marks full place on in
-        let f : Vec (ℕ × ℕ) → ℕ = λ (l : Vec (ℕ × ℕ)). length l.items in
-        let moved : sum_by f (set lists place none) + f (get_or lists place none) ≡ sum_by f lists + f none = sum_by-set f lists place none none lt in
-        let zero_it : f none ≡ 0 = ap (λ (l : List (ℕ × ℕ)). length l) is_none in
-        let there : length (entries_at lists place) ≡ f (get_or lists place none) = ap (λ (l : List (ℕ × ℕ)). length l) (entries_at-get_or lists place none lt) in
-        let some : 0 < length (entries_at lists place) = (full.marked place).0 on in
-        omega (arith, moved, zero_it, there, some)
-
     pub AreInPlace-taken : AreInPlace width b (set lists place none)
     AreInPlace-taken q e c =
         elim (cases_eq q place) as (λ _. IsInPlace width b (length (set lists place none)) q e.1) [
@@ -192,16 +182,28 @@ module _ (width last : ℕ) (lists : EntryLists) (marks : List ℕ) (full : AreM
         length-set_it (x ∷ xs) zero v = refl
         length-set_it (x ∷ xs) (suc i) v = ap (λ n. suc n) (length-set_it xs i v)
 
-    pub AreMarked-taken : (marks' : List ℕ) → length marks' ≡ length marks → place_bit marks' place ≡ 0 → ((k : ℕ) → k ≢ place → place_bit marks' k ≡ place_bit marks k) → length (set lists place none) ≡ length lists → AreMarked (set lists place none) marks'
-    AreMarked-taken marks' same off others size = record {
-      covers = omega (arith, full.covers);
-      marked = λ q. elim (cases_eq q place) as (λ _. (place_bit marks' q ≡ 1 → 0 < length (entries_at (set lists place none) q)) × (0 < length (entries_at (set lists place none) q) → place_bit marks' q ≡ 1)) [
-        | inl e ↦
-            let long : length (entries_at (set lists place none) q) ≡ 0 = ap (λ (l : List (ℕ × ℕ)). length l) (ap (entries_at (set lists place none)) e ∙ (entries_at-set_same lists place none (marked_within lists marks full place on) ∙ is_none)) in
-            let no : place_bit marks' q ≡ 0 = ap (place_bit marks') e ∙ off in
-            (λ is. absurd (let absurdity : ⊥ = omega (arith, is, no) in absurdity), λ some. absurd (let absurdity : ⊥ = omega arith in absurdity))
-        | inr ne ↦
-            let long : length (entries_at (set lists place none) q) ≡ length (entries_at lists q) = ap (λ (l : List (ℕ × ℕ)). length l) (entries_at-set_other lists place q none ne) in
-            (λ is. omega (arith, long, (full.marked q).0 (sym (others q ne) ∙ is)), λ some. others q ne ∙ (full.marked q).1 (omega arith))
-      ];
-    }
+-- ---- a list whose place is marked is emptied
+module _ (lists : EntryLists) (marks : List ℕ) (full : AreMarked lists marks) (place : ℕ) (on : place_bit marks place ≡ 1) (none : Vec (ℕ × ℕ)) (is_none : none.items ≡ []) where
+  pub fewer_entries : entry_count (set lists place none) < entry_count lists
+  fewer_entries =
+      let lt : place < length lists = marked_within lists marks full place on in
+      let f : Vec (ℕ × ℕ) → ℕ = λ (l : Vec (ℕ × ℕ)). length l.items in
+      let moved : sum_by f (set lists place none) + f (get_or lists place none) ≡ sum_by f lists + f none = sum_by-set f lists place none none lt in
+      let zero_it : f none ≡ 0 = ap (λ (l : List (ℕ × ℕ)). length l) is_none in
+      let there : length (entries_at lists place) ≡ f (get_or lists place none) = ap (λ (l : List (ℕ × ℕ)). length l) (entries_at-get_or lists place none lt) in
+      let some : 0 < length (entries_at lists place) = (full.marked place).0 on in
+      omega (arith, moved, zero_it, there, some)
+
+  pub AreMarked-taken : (marks' : List ℕ) → length marks' ≡ length marks → place_bit marks' place ≡ 0 → ((k : ℕ) → k ≢ place → place_bit marks' k ≡ place_bit marks k) → length (set lists place none) ≡ length lists → AreMarked (set lists place none) marks'
+  AreMarked-taken marks' same off others size = record {
+    covers = omega (arith, full.covers);
+    marked = λ q. elim (cases_eq q place) as (λ _. (place_bit marks' q ≡ 1 → 0 < length (entries_at (set lists place none) q)) × (0 < length (entries_at (set lists place none) q) → place_bit marks' q ≡ 1)) [
+      | inl e ↦
+          let long : length (entries_at (set lists place none) q) ≡ 0 = ap (λ (l : List (ℕ × ℕ)). length l) (ap (entries_at (set lists place none)) e ∙ (entries_at-set_same lists place none (marked_within lists marks full place on) ∙ is_none)) in
+          let no : place_bit marks' q ≡ 0 = ap (place_bit marks') e ∙ off in
+          (λ is. absurd (let absurdity : ⊥ = omega (arith, is, no) in absurdity), λ some. absurd (let absurdity : ⊥ = omega arith in absurdity))
+      | inr ne ↦
+          let long : length (entries_at (set lists place none) q) ≡ length (entries_at lists q) = ap (λ (l : List (ℕ × ℕ)). length l) (entries_at-set_other lists place q none ne) in
+          (λ is. omega (arith, long, (full.marked q).0 (sym (others q ne) ∙ is)), λ some. others q ne ∙ (full.marked q).1 (omega arith))
+    ];
+  }

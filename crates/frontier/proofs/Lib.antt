@@ -1,6 +1,7 @@
 pub mod Bags
 pub mod EntryLists
 pub mod Flags
+pub mod Keying
 pub mod Live
 pub mod Members
 pub mod Resumed

@@ -10,7 +10,7 @@ use std::alloc::{AllocError, Global};
 use std::mem::swap;
 
 /// This many empty lists.
-fn empty_lists(alloc: Global, size: u32) -> Result<Vec<Vec<(u32, u64)>>, AllocError>
+pub(crate) fn empty_lists(alloc: Global, size: u32) -> Result<Vec<Vec<(u32, u64)>>, AllocError>
     ensures len { IfOk result (λ lists. length lists.items ≡ size) }
     ensures empty { IfOk result (λ lists. (p : ℕ) → entries_at lists.items p ≡ []) }
 {
@@ -61,7 +61,7 @@ fn push_to(
 
 /// Adds the entry at the end of the list of this number. If memory runs out, each list is as it was.
 #[inline(always)]
-fn push(
+pub(crate) fn push(
     lists: &mut Vec<Vec<(u32, u64)>>,
     spares: &mut Vec<Vec<(u32, u64)>>,
     list: usize,
@@ -78,7 +78,7 @@ fn push(
 
 /// Sets the places of a list aside whose entries were taken, if they are many.
 #[inline(always)]
-fn set_aside(spares: &mut Vec<Vec<(u32, u64)>>, entries: &mut Vec<(u32, u64)>)
+pub(crate) fn set_aside(spares: &mut Vec<Vec<(u32, u64)>>, entries: &mut Vec<(u32, u64)>)
     requires none { entries.old.items ≡ [] }
     ensures none { entries.new.items ≡ [] }
 {
@@ -91,7 +91,7 @@ fn set_aside(spares: &mut Vec<Vec<(u32, u64)>>, entries: &mut Vec<(u32, u64)>)
 
 /// Swaps the entries of the list with these.
 #[inline(always)]
-fn exchange(lists: &mut Vec<Vec<(u32, u64)>>, list: usize, entries: &mut Vec<(u32, u64)>)
+pub(crate) fn exchange(lists: &mut Vec<Vec<(u32, u64)>>, list: usize, entries: &mut Vec<(u32, u64)>)
     requires { list < length lists.old.items }
     ensures lists { lists.new.items ≡ set lists.old.items list entries.old }
     ensures entries { entries.new.items ≡ entries_at lists.old.items list }
@@ -100,7 +100,7 @@ fn exchange(lists: &mut Vec<Vec<(u32, u64)>>, list: usize, entries: &mut Vec<(u3
 }
 
 /// How many entries these lists have room for, up to the greatest number of the type.
-fn places_of(lists: &[Vec<(u32, u64)>]) -> usize {
+pub(crate) fn places_of(lists: &[Vec<(u32, u64)>]) -> usize {
     let mut places: usize = 0;
     for list in lists {
         places = places.saturating_add(list.capacity());

@@ -1,21 +1,21 @@
 //! The distance to one target, by a search that lower bounds of the ways to it guide there.
 
-ghost use Rattle.std.specs.Prelude.{◌≡◌, ◌+◌, ◌*◌, ◌/◌, ◌≤◌, ◌<◌, ◌^◌, ◌↔◌, ℕ, Contains, None, Some, false, length, max, replicate, slice_set, IfOk, IfSome, IsTrue, OnOk, MatchBool, MatchOption};
-ghost use Rattle.std.specs.FinMap as map;
+ghost use Rattle.std.specs.Prelude.{◌≡◌, ◌+◌, ◌*◌, ◌/◌, ◌≤◌, ◌<◌, ◌^◌, ◌↔◌, ℕ, [], All, Contains, None, Some, false, length, max, replicate, IfOk, IfSome, IsTrue, OnOk, MatchOption};
 ghost use Rattle.relax.specs.Values.{value_at, value_or};
 ghost use Rattle.roadnet.specs.Net.{Net};
 ghost use Rattle.snapshot.specs.Groups.{Groups, IsGrouped, IsSnapshotOf};
 ghost use Rattle.snapshot.specs.declared.legs.Part.{Part};
-ghost use Rattle.deltastep.specs.Search.{IsBetweenBuckets, most_lists};
-ghost use Rattle.deltastep.specs.Guided.{ConsistentIsLowerBound, SearchGoesOn, IsBest, IsDone, IsGuided, IsKey, IsLowerBound, KeyStaysBelow, EndsReached};
-ghost use Rattle.deltastep.specs.Stepping.{LowersByKey};
+ghost use Rattle.buckets.specs.Rings.{IsBucketWithin};
+ghost use Rattle.frontier.specs.Entries.{entries_at};
+ghost use Rattle.deltastep.specs.Search.{most_lists};
+ghost use Rattle.deltastep.specs.Guided.{ConsistentIsLowerBound, EndsReached, GoesOnTo, HasDone, IsBest, IsKey, IsLowerBound, IsStart, IsUnderWayTo, KeepsWindow, KeyStaysBelow, LowersByKey};
 ghost use Rattle.deltastep.specs.Reach.{IsLeastLength};
 
 use crate::rows::distances::RowError;
 use crate::searches::search::top;
-use crate::searches::stepping::{narrower, ring_size};
+use crate::searches::stepping::{MOST_LISTS, narrower};
 use crate::searches::workspace::Workspace;
-use buckets::{BucketQueue, OrderedBuckets};
+use frontier::KeyedRing;
 use relax::Tentative;
 use snapshot::{Part, Snapshot};
 use std::alloc::Global;
@@ -75,74 +75,48 @@ fn width_of_keys(snapshot: &Snapshot) -> u32
     1 << widest.ilog2()
 }
 
-/// How many buckets of keys a ring gets, at least so many: those of twice the greatest length, by which a key may grow at an arc, if a ring may have so many.
-fn lists_of_keys(snapshot: &Snapshot, width: u32, least: u32) -> u32
+/// How many buckets of keys a ring gets: those of twice the greatest length, by which a key may grow at an arc, if a ring may have so many.
+fn lists_of_keys(snapshot: &Snapshot, width: u32) -> u32
     requires positive { 1 ≤ width }
-    ensures some { 1 ≤ least → 1 ≤ result }
-    ensures few { least ≤ most_lists → result ≤ most_lists }
+    ensures some { 1 ≤ result }
+    ensures few { result ≤ most_lists }
 {
     let keys = u64::from(snapshot.greatest()) * 2 / u64::from(width) + 2;
-    if keys <= 65536 {
-        return least.max(keys as u32);
-    }
-    least.max(65536)
+    keys.min(u64::from(MOST_LISTS)) as u32
 }
 
-/// A search by keys under way: the least value found so far for each node, and the nodes whose legs are still to be relaxed, in buckets by key.
+/// A search by keys under way: the least value found so far for each node, and entries in buckets by key. The legs of a node are still to be relaxed if it
+/// has a live entry, which is one with its value. Each entry lowers its node's value, so the others are of no use, and are passed over.
 #[derive(Drop)]
-pub struct KeyedSearch<Q> {
+pub struct KeyedSearch {
     pub(crate) tentative: Tentative,
-    pub(crate) buckets: Q,
+    pub(crate) ring: KeyedRing,
 }
 
-impl<Q: BucketQueue> KeyedSearch<Q> {
-    /// Lowers a node's value to the given one, if that is below `top` and the present value, and queues the node by it. Returns whether it did.
-    #[inline(always)]
-    fn lower(&mut self, top: u64, node: u32, found: u64) -> Result<bool, RowError>
-        requires node { (1 ≤ node) × (node < length self.old.tentative) }
-        requires fits { Q.accepts self.old.buckets found }
-        requires small { top ≤ 2 ^ 56 }
-        ensures lowered { IfOk result (λ lowers. MatchBool lowers (found < value_or top self.old.tentative node) (value_or top self.old.tentative node ≤ found)) }
-        ensures tentative { IfOk result (λ lowers. MatchBool lowers (self.new.tentative ≡ slice_set self.old.tentative node (Some found)) (self.new.tentative ≡ self.old.tentative)) }
-        ensures queued { IfOk result (λ lowers. MatchBool lowers (Q.entries self.new.buckets ≡ map.insert (Q.entries self.old.buckets) node found) (Q.entries self.new.buckets ≡ Q.entries self.old.buckets)) }
-        ensures width { Q.width self.new.buckets ≡ Q.width self.old.buckets }
-        ensures span { Q.span self.new.buckets ≡ Q.span self.old.buckets }
-    {
-        let lowers = match self.tentative.get(node) {
-            Some(old) => found < old,
-            None => found < top,
-        };
-        if lowers {
-            self.buckets.put(node, found)?;
-            self.tentative.set(node, found);
-        }
-        Ok(lowers)
-    }
-
-    /// A search by keys that knows only the source, with empty values and an empty queue, of any width.
+impl KeyedSearch {
+    /// A search by keys that knows only the source, with empty values and an empty ring.
     fn begin_guided(
         snapshot: &Snapshot,
         source: u32,
         tentative: Tentative,
-        buckets: Q,
-    ) -> Result<KeyedSearch<Q>, RowError>
-    where
-        Q: Drop,
+        ring: KeyedRing,
+    ) -> Result<KeyedSearch, RowError>
         requires node { (1 ≤ source) × (source ≤ snapshot.now.nodes) }
         requires blank { tentative ≡ replicate (snapshot.now.nodes + 1) None }
-        requires empty { Q.entries buckets ≡ map.empty }
-        requires first { Q.accepts buckets 0 }
-        ensures state { IfOk result (λ search. IsBetweenBuckets snapshot.now source search.tentative (Q.entries search.buckets)) }
+        requires first { ring.last ≡ 0 }
+        requires empty { (p : ℕ) → entries_at ring.lists.items p ≡ [] }
+        ensures state { IfOk result (λ search. (target : ℕ) → IsUnderWayTo snapshot.now source target search) }
+        ensures done { IfOk result (λ search. (part : Part) (u : ℕ) → HasDone snapshot.now part search u) }
         ensures grouped { OnOk result (IsGrouped snapshot.now) }
-        ensures width { IfOk result (λ search. Q.width search.buckets ≡ Q.width buckets) }
-        ensures span { IfOk result (λ search. Q.span search.buckets ≡ Q.span buckets) }
     {
-        let mut search = KeyedSearch { tentative, buckets };
-        search.lower(top(snapshot), source, 0)?;
+        let _grouped = snapshot.nodes();
+        let mut search = KeyedSearch { tentative, ring };
+        search.ring.add(0, source, 0)?;
+        search.tentative.set(source, 0);
         Ok(search)
     }
 
-    /// Lowers a node's value to the given one, if that is below `top` and the present value, and queues the node by a key from `start` to `end`, which it
+    /// Lowers a node's value to the given one, if that is below `top` and the present value, and adds an entry by a key from `start` to `end`, which it
     /// returns.
     #[inline(always)]
     fn lower_to<G: Guide>(
@@ -156,15 +130,13 @@ impl<Q: BucketQueue> KeyedSearch<Q> {
     ) -> Result<Option<u64>, RowError>
         requires node { (1 ≤ node) × (node < length self.old.tentative) }
         requires window { start ≤ end }
-        requires fits { (v : ℕ) → start ≤ v → v ≤ end → Q.accepts self.old.buckets v }
+        requires fits { (v : ℕ) → start ≤ v → v ≤ end → IsBucketWithin self.old.ring.last (length self.old.ring.lists.items) (v / self.old.ring.delta) }
         requires small { top ≤ 2 ^ 56 }
         ensures lowered { IfOk result (λ key. MatchOption key (value_or top self.old.tentative node ≤ value) (λ _. value < value_or top self.old.tentative node)) }
-        ensures changed { IfOk result (λ key. LowersByKey Q.BucketQueue node value self.old self.new key) }
+        ensures changed { IfOk result (λ key. LowersByKey node value self.old self.new key) }
         ensures to { IfOk result (λ key. IfSome key (λ key. key ≤ end)) }
         ensures below { IfOk result (λ key. IfSome key (KeyStaysBelow (G.knows guide.now) (G.target guide.now) node value start)) }
-        ensures accepts { (v : ℕ) → Q.accepts self.old.buckets v → Q.accepts self.new.buckets v }
-        ensures width { Q.width self.new.buckets ≡ Q.width self.old.buckets }
-        ensures span { Q.span self.new.buckets ≡ Q.span self.old.buckets }
+        ensures keeps { KeepsWindow self.old.ring self.new.ring }
     {
         let lowers = match self.tentative.get(node) {
             Some(old) => value < old,
@@ -174,7 +146,7 @@ impl<Q: BucketQueue> KeyedSearch<Q> {
             return Ok(None);
         }
         let key = key_of(guide, node, value, start, end);
-        self.buckets.put(node, key)?;
+        self.ring.add(key, node, value)?;
         self.tentative.set(node, value);
         Ok(Some(key))
     }
@@ -191,15 +163,13 @@ impl<Q: BucketQueue> KeyedSearch<Q> {
         guide: &G,
     ) -> Result<(), RowError>
         requires knows { G.knows guide.now snapshot.now }
-        requires state { (source : ℕ) × IsGuided snapshot.now source (G.target guide.now) self.old.tentative (Q.entries self.old.buckets) }
+        requires state { (source : ℕ) × IsUnderWayTo snapshot.now source (G.target guide.now) self.old }
         requires key { IsKey snapshot.now (G.target guide.now) self.old.tentative node start }
         requires window { start ≤ end }
-        requires fits { (v : ℕ) → start ≤ v → v ≤ end → Q.accepts self.old.buckets v }
-        ensures goes_on { OnOk result (SearchGoesOn snapshot.now (G.target guide.now) start self.old.tentative (Q.entries self.old.buckets) self.new.tentative (Q.entries self.new.buckets)) }
-        ensures done { OnOk result (IsDone snapshot.now part self.new.tentative (Q.entries self.new.buckets) node) }
-        ensures accepts { OnOk result ((v : ℕ) → Q.accepts self.old.buckets v → Q.accepts self.new.buckets v) }
-        ensures width { OnOk result (Q.width self.new.buckets ≡ Q.width self.old.buckets) }
-        ensures span { OnOk result (Q.span self.new.buckets ≡ Q.span self.old.buckets) }
+        requires fits { (v : ℕ) → start ≤ v → v ≤ end → IsBucketWithin self.old.ring.last (length self.old.ring.lists.items) (v / self.old.ring.delta) }
+        ensures goes_on { OnOk result (GoesOnTo snapshot.now (G.target guide.now) start self.old self.new) }
+        ensures done { OnOk result (HasDone snapshot.now part self.new node) }
+        ensures keeps { KeepsWindow self.old.ring self.new.ring }
     {
         let top = top(snapshot);
         let value = self.tentative.get(node).unwrap_or(0);
@@ -221,15 +191,13 @@ impl<Q: BucketQueue> KeyedSearch<Q> {
         guide: &G,
     ) -> Result<(), RowError>
         requires knows { G.knows guide.now snapshot.now }
-        requires state { (source : ℕ) × IsGuided snapshot.now source (G.target guide.now) self.old.tentative (Q.entries self.old.buckets) }
+        requires state { (source : ℕ) × IsUnderWayTo snapshot.now source (G.target guide.now) self.old }
         requires key { IsKey snapshot.now (G.target guide.now) self.old.tentative node start }
         requires window { start ≤ end }
-        requires fits { (v : ℕ) → start ≤ v → v ≤ end → Q.accepts self.old.buckets v }
-        ensures goes_on { OnOk result (SearchGoesOn snapshot.now (G.target guide.now) start self.old.tentative (Q.entries self.old.buckets) self.new.tentative (Q.entries self.new.buckets)) }
-        ensures done { OnOk result ((part : Part) → IsDone snapshot.now part self.new.tentative (Q.entries self.new.buckets) node) }
-        ensures accepts { OnOk result ((v : ℕ) → Q.accepts self.old.buckets v → Q.accepts self.new.buckets v) }
-        ensures width { OnOk result (Q.width self.new.buckets ≡ Q.width self.old.buckets) }
-        ensures span { OnOk result (Q.span self.new.buckets ≡ Q.span self.old.buckets) }
+        requires fits { (v : ℕ) → start ≤ v → v ≤ end → IsBucketWithin self.old.ring.last (length self.old.ring.lists.items) (v / self.old.ring.delta) }
+        ensures goes_on { OnOk result (GoesOnTo snapshot.now (G.target guide.now) start self.old self.new) }
+        ensures done { OnOk result ((part : Part) → HasDone snapshot.now part self.new node) }
+        ensures keeps { KeepsWindow self.old.ring self.new.ring }
     {
         self.relax_part(snapshot, node, Part::Light, start, end, guide)?;
         if snapshot.is_joined() {
@@ -239,28 +207,56 @@ impl<Q: BucketQueue> KeyedSearch<Q> {
         Ok(())
     }
 
-    /// Relaxes all legs of nodes that were taken from a bucket, whose start is given.
+    /// Relaxes all legs of an entry's node, if the entry is live.
     #[inline(always)]
-    fn relax_all<G: Guide>(
+    fn relax_entry<G: Guide>(
         &mut self,
         snapshot: &Snapshot,
-        nodes: &[u32],
+        node: u32,
+        value: u64,
         start: u64,
         end: u64,
         guide: &G,
     ) -> Result<(), RowError>
         requires knows { G.knows guide.now snapshot.now }
-        requires state { (source : ℕ) × IsGuided snapshot.now source (G.target guide.now) self.old.tentative (Q.entries self.old.buckets) }
-        requires keys { (u : ℕ) → Contains nodes.now u → IsKey snapshot.now (G.target guide.now) self.old.tentative u start }
+        requires state { (source : ℕ) × IsUnderWayTo snapshot.now source (G.target guide.now) self.old }
+        requires node { (1 ≤ node) × (node ≤ snapshot.now.nodes) }
+        requires key { IsStart snapshot.now (G.target guide.now) node value start }
         requires window { start ≤ end }
-        requires fits { (v : ℕ) → start ≤ v → v ≤ end → Q.accepts self.old.buckets v }
-        ensures goes_on { OnOk result (SearchGoesOn snapshot.now (G.target guide.now) start self.old.tentative (Q.entries self.old.buckets) self.new.tentative (Q.entries self.new.buckets)) }
-        ensures done { OnOk result ((part : Part) (u : ℕ) → Contains nodes.now u → IsDone snapshot.now part self.new.tentative (Q.entries self.new.buckets) u) }
-        ensures width { OnOk result (Q.width self.new.buckets ≡ Q.width self.old.buckets) }
-        ensures span { OnOk result (Q.span self.new.buckets ≡ Q.span self.old.buckets) }
+        requires fits { (v : ℕ) → start ≤ v → v ≤ end → IsBucketWithin self.old.ring.last (length self.old.ring.lists.items) (v / self.old.ring.delta) }
+        ensures goes_on { OnOk result (GoesOnTo snapshot.now (G.target guide.now) start self.old self.new) }
+        ensures done { OnOk result ((part : Part) → value_at self.new.tentative node ≡ Some value → HasDone snapshot.now part self.new node) }
+        ensures keeps { KeepsWindow self.old.ring self.new.ring }
     {
-        for &node in nodes {
-            self.relax_node(snapshot, node, start, end, guide)?;
+        if self.tentative.get(node) != Some(value) {
+            return Ok(());
+        }
+        self.relax_node(snapshot, node, start, end, guide)
+    }
+
+    /// Relaxes all legs of the nodes of live entries that were taken from a bucket, whose start is given.
+    #[inline(always)]
+    fn relax_all<G: Guide>(
+        &mut self,
+        snapshot: &Snapshot,
+        entries: &[(u32, u64)],
+        start: u64,
+        end: u64,
+        guide: &G,
+    ) -> Result<(), RowError>
+        requires knows { G.knows guide.now snapshot.now }
+        requires state { (source : ℕ) × IsUnderWayTo snapshot.now source (G.target guide.now) self.old }
+        requires nodes { All (λ e. (1 ≤ e.0) × (e.0 ≤ snapshot.now.nodes)) entries.now }
+        requires keys { All (λ e. IsStart snapshot.now (G.target guide.now) e.0 e.1 start) entries.now }
+        requires window { start ≤ end }
+        requires fits { (v : ℕ) → start ≤ v → v ≤ end → IsBucketWithin self.old.ring.last (length self.old.ring.lists.items) (v / self.old.ring.delta) }
+        ensures goes_on { OnOk result (GoesOnTo snapshot.now (G.target guide.now) start self.old self.new) }
+        ensures done { OnOk result ((part : Part) (e : ℕ × ℕ) → Contains entries.now e → value_at self.new.tentative e.0 ≡ Some e.1 → HasDone snapshot.now part self.new e.0) }
+        ensures keeps { KeepsWindow self.old.ring self.new.ring }
+    {
+        for entry in entries {
+            let (node, value) = *entry;
+            self.relax_entry(snapshot, node, value, start, end, guide)?;
         }
         Ok(())
     }
@@ -277,77 +273,73 @@ impl<Q: BucketQueue> KeyedSearch<Q> {
         }
     }
 
-    /// Settles bucket after bucket of keys until the value of the guide's target is final: until it is at most the start of the least bucket, or no node is
-    /// queued any more.
+    /// Settles bucket after bucket of keys until the value of the guide's target is final: until it is at most the start of the least bucket, or no entry is
+    /// left.
     fn settle_guided<G: Guide>(
         &mut self,
-        alloc: Global,
         snapshot: &Snapshot,
         target: u32,
+        taken: &mut Vec<(u32, u64)>,
         guide: &G,
     ) -> Result<(), RowError>
         requires target { (1 ≤ target) × (target ≤ snapshot.now.nodes) }
         requires leads { G.target guide.now ≡ target }
         requires knows { G.knows guide.now snapshot.now }
-        requires state { (source : ℕ) × IsGuided snapshot.now source (G.target guide.now) self.old.tentative (Q.entries self.old.buckets) }
-        requires done { (part : Part) (u : ℕ) → IsDone snapshot.now part self.old.tentative (Q.entries self.old.buckets) u }
-        requires wide { 1 ≤ Q.width self.old.buckets }
-        requires window { 1 ≤ Q.span self.old.buckets }
+        requires none { taken.old.items ≡ [] }
+        requires state { (source : ℕ) × IsUnderWayTo snapshot.now source (G.target guide.now) self.old }
+        requires done { (part : Part) (u : ℕ) → HasDone snapshot.now part self.old u }
+        ensures none { OnOk result (taken.new.items ≡ []) }
         ensures places { OnOk result (length self.new.tentative ≡ snapshot.now.nodes + 1) }
-        ensures reached { OnOk result (EndsReached snapshot.now (G.target guide.now) self.old.tentative (Q.entries self.old.buckets) self.new.tentative) }
+        ensures reached { OnOk result (EndsReached snapshot.now (G.target guide.now) self.old self.new.tentative) }
         ensures best { OnOk result (IsBest snapshot.now self.new.tentative (G.target guide.now)) }
     {
-        let delta = u64::from(self.buckets.delta());
-        let window = self.buckets.window();
-        let mut taken = Vec::new(alloc);
-        'buckets: while let Some(bucket) = self.buckets.take_least_into(&mut taken)? {
+        let delta = u64::from(self.ring.delta());
+        let window = self.ring.size() as u64;
+        'buckets: while let Some(bucket) = self.ring.take(taken) {
             let start = bucket * delta;
             if self.is_at_most(target, start) {
+                taken.clear();
                 return Ok(());
             }
             let end = end_of(bucket, window, delta);
-            self.relax_all(snapshot, &taken, start, end, guide)?;
+            self.relax_all(snapshot, taken, start, end, guide)?;
+            taken.clear();
         }
         Ok(())
     }
 }
 
-/// The values and the queue as a search from `source` leaves them once the value of `target` is final, with the given guide, empty values and an empty queue.
+/// The values and the emptied ring, after a search from `source` that ends once the value of `target` is final, with the given guide, empty values and an
+/// empty ring.
 #[inline(always)]
-fn guided_by<Q: BucketQueue + Drop, G: Guide>(
+fn guided_by<G: Guide>(
     alloc: Global,
     snapshot: &Snapshot,
     source: u32,
     target: u32,
     guide: &G,
     values: Tentative,
-    buckets: Q,
-) -> Result<(Tentative, Q), RowError>
+    ring: KeyedRing,
+) -> Result<(Tentative, KeyedRing), RowError>
     requires blank { values ≡ replicate (snapshot.now.nodes + 1) None }
     requires source { (1 ≤ source) × (source ≤ snapshot.now.nodes) }
     requires target { (1 ≤ target) × (target ≤ snapshot.now.nodes) }
     requires leads { G.target guide.now ≡ target }
     requires knows { G.knows guide.now snapshot.now }
-    requires empty { Q.entries buckets ≡ map.empty }
-    requires first { Q.accepts buckets 0 }
-    requires wide { 1 ≤ Q.width buckets }
-    requires window { 1 ≤ Q.span buckets }
+    requires first { ring.last ≡ 0 }
+    requires empty { (p : ℕ) → entries_at ring.lists.items p ≡ [] }
     ensures places { IfOk result (λ over. length over.0 ≡ snapshot.now.nodes + 1) }
     ensures distance { IfOk result (λ over. (net : Net) → IsSnapshotOf net snapshot.now → IsLeastLength net source target (value_at over.0 target)) }
 {
-    let mut search = KeyedSearch::begin_guided(snapshot, source, values, buckets)?;
-    search.settle_guided(alloc, snapshot, target, guide)?;
-    let KeyedSearch { tentative, buckets } = search;
-    Ok((tentative, buckets))
-}
-
-/// Takes out all that is still queued. If memory runs out, some of it may remain.
-fn drain<Q: BucketQueue>(alloc: Global, queue: &mut Q) -> Result<(), RowError>
-    ensures { OnOk result (Q.entries queue.new ≡ map.empty) }
-{
+    let mut search = KeyedSearch::begin_guided(snapshot, source, values, ring)?;
     let mut taken = Vec::new(alloc);
-    'buckets: while let Some(_bucket) = queue.take_least_into(&mut taken)? {}
-    Ok(())
+    search.settle_guided(snapshot, target, &mut taken, guide)?;
+    let KeyedSearch {
+        tentative,
+        mut ring,
+    } = search;
+    ring.empty(&mut taken);
+    Ok((tentative, ring))
 }
 
 /// The values of a search that the guide leads from `source` to `target`, and that ends once the value of `target` is final: its distance, or nothing if no
@@ -376,18 +368,8 @@ pub fn values_guided_in<G: Guide>(
     let values = workspace.take_values(alloc, snapshot.nodes())?;
     let narrow = snapshot.narrowed()?;
     let delta = width_of_keys(narrower(&narrow, snapshot));
-    let Some(size) = ring_size(snapshot) else {
-        let buckets = OrderedBuckets::new(alloc, delta);
-        let (values, _buckets) = guided_by(
-            alloc, snapshot, source, target, guide, values, buckets,
-        )?;
-        return Ok(values);
-    };
-    let lists = lists_of_keys(snapshot, delta, size);
-    let queue = workspace.take_queue(alloc, delta, lists)?;
-    let (values, mut queue) = guided_by(alloc, snapshot, source, target, guide, values, queue)?;
-    if drain(alloc, &mut queue).is_ok() {
-        workspace.keep_queue(queue);
-    }
+    let ring = workspace.take_keyed(alloc, delta, lists_of_keys(snapshot, delta))?;
+    let (values, ring) = guided_by(alloc, snapshot, source, target, guide, values, ring)?;
+    workspace.keep_keyed(ring, snapshot.nodes());
     Ok(values)
 }

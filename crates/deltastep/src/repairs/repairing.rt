@@ -14,7 +14,7 @@ use crate::repairs::remaining::{Remains, remaining};
 use crate::repairs::untouched::untouched_row;
 use crate::rows::distances::{Distances, RowError};
 use crate::searches::search::Search;
-use crate::searches::stepping::row_in;
+use crate::searches::stepping::{MOST_LISTS, row_in};
 use crate::searches::workspace::Workspace;
 use frontier::{EntryRing, Frontier, LazyRing, Mended, Remembered};
 use relax::Team;
@@ -24,16 +24,13 @@ use std::alloc::Global;
 /// The fewest lists of the ring of a repair.
 const FEWEST_LISTS: usize = 1024;
 
-/// The most lists of a ring.
-const MOST_LISTS: usize = 65536;
-
 /// How many lists the ring of a repair has, where so many nodes lost their value: as many, within limits. So a small repair makes a small ring, and a large
 /// one seldom deals what waits in the bag.
 fn lists_for(lost: usize) -> u32
     ensures some { 1 ≤ result }
     ensures few { result ≤ most_lists }
 {
-    lost.clamp(FEWEST_LISTS, MOST_LISTS) as u32
+    lost.clamp(FEWEST_LISTS, MOST_LISTS as usize) as u32
 }
 
 /// The frontier from which a repair goes on: what remains of the row, and the nodes with a leg that leads to less than is known.

@@ -15,7 +15,7 @@ use snapshot::Snapshot;
 use std::alloc::Global;
 
 /// The most lists of a ring of buckets.
-const MOST_LISTS: u64 = 65536;
+pub(crate) const MOST_LISTS: u32 = 65536;
 
 /// The row of `source`: the least length of a walk from it to each node, or that there is none. It uses delta-stepping with the given team and queue.
 ///
@@ -95,7 +95,7 @@ pub fn ring_size(snapshot: &Snapshot) -> Option<u32>
     ensures { IsRingSize snapshot.now.greatest snapshot.now.delta result }
 {
     let size = live_buckets(snapshot);
-    if size <= MOST_LISTS {
+    if size <= u64::from(MOST_LISTS) {
         Some(size as u32)
     } else {
         None

@@ -1,13 +1,11 @@
 //! Memory that one search leaves to the next.
 
-ghost use Rattle.std.specs.Prelude.{◌≡◌, ◌+◌, ◌≤◌, [], None, Some, IsOk, IsSome, IfOk, IfSome, length, replicate};
-ghost use Rattle.std.specs.FinMap as map;
+ghost use Rattle.std.specs.Prelude.{◌≡◌, ◌+◌, ◌≤◌, [], None, Some, IsOk, IfOk, length, replicate};
 ghost use Rattle.frontier.specs.Entries.{IsFresh};
 ghost use Rattle.deltastep.specs.Search.{most_lists};
 
 use crate::rows::distances::RowError;
-use buckets::{BucketQueue, RingBuckets};
-use frontier::{EntryRing, Remembered};
+use frontier::{EntryRing, KeyedRing, Remembered};
 use relax::Tentative;
 use std::alloc::Global;
 
@@ -15,32 +13,15 @@ use std::alloc::Global;
 const FEW_PLACES: usize = 8;
 
 /// The memory that a search needs beside its row, left for the next search, of the same snapshot or another. What does not suit that search is made anew,
-/// such as a ring after a search that was led to its target, which leaves a queue in its place. It takes no memory before a search has left some. After
-/// that it takes at most 27 bytes a node: with a ring at most 17, and 24 to 152 a list; with a queue 14 to 27, 24 a list, and what these lists hold. After a
-/// search for one distance it takes 8 bytes a node more, and 4 for each node that any of them reached.
+/// such as a ring after a search that was led to its target, which leaves one by keys in its place. It takes no memory before a search has left some. After
+/// that it takes at most 17 bytes a node, and 24 to 152 a list. After a search for one distance it takes 8 bytes a node more, and 4 for each node that any of
+/// them reached.
 #[derive(Drop)]
 pub struct Workspace {
     ring: Option<EntryRing>,
-    queue: Option<RingBuckets>,
+    keyed: Option<KeyedRing>,
     remembered: Option<Remembered>,
     values: Option<Tentative>,
-}
-
-/// The queue that was left, if there is one, no node is queued, a node of value 0 fits, its buckets have this width, and as many fit.
-fn fresh<Q: BucketQueue + Drop>(left: Option<Q>, delta: u32, size: u32) -> Option<Q>
-    ensures empty { IfSome result (λ q. Q.entries q ≡ map.empty) }
-    ensures first { IfSome result (λ q. Q.accepts q 0) }
-    ensures width { IfSome result (λ q. Q.width q ≡ delta) }
-    ensures span { IfSome result (λ q. size ≤ Q.span q) }
-{
-    let queue = left?;
-    if !queue.is_empty() || !queue.fits(0) {
-        return None;
-    }
-    if queue.delta() != delta || queue.window() < u64::from(size) {
-        return None;
-    }
-    Some(queue)
 }
 
 impl Workspace {
@@ -48,7 +29,7 @@ impl Workspace {
     pub fn new() -> Workspace {
         Workspace {
             ring: None,
-            queue: None,
+            keyed: None,
             remembered: None,
             values: None,
         }
@@ -75,26 +56,25 @@ impl Workspace {
         Ok(ring)
     }
 
-    /// An empty queue of buckets of this width: the one that was left, if it is such a queue with as many lists, otherwise a new one.
-    pub(crate) fn take_queue(
+    /// An empty ring of buckets of keys of this width: the one that was left, if it is such a ring with as many lists, otherwise a new one.
+    pub(crate) fn take_keyed(
         &mut self,
         alloc: Global,
         delta: u32,
         size: u32,
-    ) -> Result<RingBuckets, RowError>
+    ) -> Result<KeyedRing, RowError>
         requires width { 1 ≤ delta }
         requires some { 1 ≤ size }
         requires few { size ≤ most_lists }
-        ensures empty { IfOk result (λ q. ⟦<RingBuckets as BucketQueue>⟧.entries q ≡ map.empty) }
-        ensures first { IfOk result (λ q. ⟦<RingBuckets as BucketQueue>⟧.accepts q 0) }
-        ensures width { IfOk result (λ q. ⟦<RingBuckets as BucketQueue>⟧.width q ≡ delta) }
-        ensures span { IfOk result (λ q. size ≤ ⟦<RingBuckets as BucketQueue>⟧.span q) }
+        ensures fresh { IfOk result (λ ring. IsFresh ring.delta ring.last ring.lists.items delta size) }
     {
-        if let Some(queue) = fresh(self.queue.take(), delta, size) {
-            return Ok(queue);
+        if let Some(ring) = self.keyed.take() {
+            if ring.is_fresh(delta, size) {
+                return Ok(ring);
+            }
         }
-        let buckets = RingBuckets::new(alloc, delta, size)?;
-        Ok(buckets)
+        let ring = KeyedRing::new(alloc, delta, size)?;
+        Ok(ring)
     }
 
     /// An empty memory of nodes below the limit: the one that was left, if it has that limit, otherwise a new one.
@@ -137,7 +117,7 @@ impl Workspace {
         self.values = Some(values);
     }
 
-    /// Keeps the ring of a search over so many nodes for the next one, in place of a queue, unless it has room for more entries than there are nodes, and a
+    /// Keeps the ring of a search over so many nodes for the next one, in place of that of a search by keys, unless it has room for more entries than there are nodes, and a
     /// few a list.
     pub(crate) fn keep_ring(&mut self, ring: EntryRing, nodes: u32)
         ensures remembered { self.new.remembered ≡ self.old.remembered }
@@ -145,7 +125,7 @@ impl Workspace {
         let few = ring.size().saturating_mul(FEW_PLACES);
         if ring.places() <= few.saturating_add(nodes as usize) {
             self.ring = Some(ring);
-            self.queue = None;
+            self.keyed = None;
         }
     }
 
@@ -156,15 +136,14 @@ impl Workspace {
         self.remembered = Some(remembered);
     }
 
-    /// Keeps the queue of a search, for the next one, in place of a ring.
-    pub(crate) fn keep_queue(&mut self, queue: RingBuckets)
-        ensures queue { ⟦<RingBuckets as BucketQueue>⟧.entries queue ≡ map.empty → IsSome self.new.queue }
+    /// Keeps the ring of a search by keys over so many nodes for the next one, in place of that of a search by values, unless it has room for more entries
+    /// than there are nodes, and a few a list.
+    pub(crate) fn keep_keyed(&mut self, ring: KeyedRing, nodes: u32)
         ensures remembered { self.new.remembered ≡ self.old.remembered }
     {
-        let mut queue = queue;
-        if queue.is_empty() {
-            queue.restart();
-            self.queue = Some(queue);
+        let few = ring.size().saturating_mul(FEW_PLACES);
+        if ring.places() <= few.saturating_add(nodes as usize) {
+            self.keyed = Some(ring);
             self.ring = None;
         }
     }

@@ -53,7 +53,7 @@ invariant_of-self c =
       positive = s.positive;
       some = rw (moved, long) s.some;
       begins = rw (moved, long) at;
-      marked = rw moved (AreMarked-taken s.delta s.last s.lists.items s.marks s.marked s.within b told.far between place at on c.set_aside.new.entries c.set_aside.ensures.none c.exchange.new.entries.items c.exchange.ensures.entries c.remove.new.self c.remove.ensures.limit c.remove.ensures.member c.remove.ensures.others long);
+      marked = rw moved (AreMarked-taken s.lists.items s.marks s.marked place on c.set_aside.new.entries c.set_aside.ensures.none c.remove.new.self c.remove.ensures.limit c.remove.ensures.member c.remove.ensures.others long);
       within = rw moved (AreInPlace-taken s.delta s.last s.lists.items s.marks s.marked s.within b told.far between place at on c.set_aside.new.entries c.set_aside.ensures.none c.exchange.new.entries.items c.exchange.ensures.entries);
     }
 
@@ -91,4 +91,4 @@ returns-clause-none c =
     let moved : c.exchange.new.lists.items ≡ set s.lists.items c.next_marked-bucket.result.1 c.set_aside.new.entries = c.exchange.ensures.lists in
     let long : length (set s.lists.items c.next_marked-bucket.result.1 c.set_aside.new.entries) ≡ length s.lists.items = length-set s.lists.items place c.set_aside.new.entries in
     let between : (k : ℕ) → s.last ≤ k → k < c.next_marked-bucket.result.0 → k < s.last + length s.lists.items → place_bit s.marks (k % length s.lists.items) ≡ 0 = rw (← size) told.between in
-    rw moved (fewer_entries s.delta s.last s.lists.items s.marks s.marked s.within b told.far between place at on c.set_aside.new.entries c.set_aside.ensures.none c.exchange.new.entries.items c.exchange.ensures.entries)
+    rw moved (fewer_entries s.lists.items s.marks s.marked place on c.set_aside.new.entries c.set_aside.ensures.none)

@@ -1,6 +1,25 @@
-use Rattle.deltastep.proofs.Starting.{IsBetweenBuckets-first}
+use Rattle.std.proofs.Common.{◌≤◌, ◌/◌, ℕ, List, Option, Some, set, ap, ◌∙◌, arith}
+use Rattle.std.proofs.Math.Nat.{div-le_self}
+use Rattle.deltastep.specs.Guided.{stands_in}
+use Rattle.deltastep.proofs.Guiding.{IsDone-first, IsGuided-first, nothing_stands, put_first}
 use Rattle.deltastep.proofs.questions.guided.KeyedSearch.begin_guided.Goals as goal
 
+pub add-requires : goal.add-requires
+add-requires c =
+    let r = c.args.ring in
+    let none : 0 / r.delta ≤ 0 = div-le_self 0 r.delta in
+    record { fits = (omega (arith, c.requires.first), omega (arith, none, c.requires.first, r.some)) }
+
 pub returns-clause-state : goal.returns-clause-state
-returns-clause-state g c =
-    IsBetweenBuckets-first c.args.snapshot.now c.args.source c.requires.node.0 c.requires.node.1 c.args.tentative c.lower.new.self.tentative (g.Q.BucketQueue.entries c.lower.new.self.buckets) (g.Q.BucketQueue.entries c.args.buckets) c.in_ok-lower.field-0 c.requires.blank c.requires.empty (rw c.top.ensures.value at c.in_ok-lower.ensures.lowered) c.in_ok-lower.ensures.tentative c.in_ok-lower.ensures.queued
+returns-clause-state c target =
+    let r = c.args.ring in
+    let n = c.add.new.self in
+    let groups = c.args.snapshot.now in
+    rw c.add.ensures.width (IsGuided-first groups c.args.source c.requires.node.0 c.requires.node.1 r.delta (stands_in n) (put_first (stands_in r) (stands_in n) (0 / r.delta) (c.args.source, 0) (nothing_stands r.last r.lists.items c.requires.empty) c.in_ok-add.ensures.ok) c.set.new.self (c.set.ensures.set ∙ ap (λ (t : List (Option ℕ)). set t c.args.source (Some 0)) c.requires.blank) target)
+
+pub returns-clause-done : goal.returns-clause-done
+returns-clause-done c part u =
+    let r = c.args.ring in
+    let n = c.add.new.self in
+    let groups = c.args.snapshot.now in
+    IsDone-first groups c.args.source c.requires.node.0 c.requires.node.1 r.delta (stands_in n) (put_first (stands_in r) (stands_in n) (0 / r.delta) (c.args.source, 0) (nothing_stands r.last r.lists.items c.requires.empty) c.in_ok-add.ensures.ok) c.set.new.self (c.set.ensures.set ∙ ap (λ (t : List (Option ℕ)). set t c.args.source (Some 0)) c.requires.blank) part u

@@ -13,8 +13,8 @@ use Rattle.snapshot.specs.declared.legs.Leg.{Leg}
 use Rattle.snapshot.specs.declared.legs.Part.{Part}
 use Rattle.snapshot.specs.declared.legs.Part.TheVariants.{Light, Heavy}
 use Rattle.buckets.specs.Rings.{IsBucketWithin}
-use Rattle.frontier.specs.declared.keyed.KeyedRing.{KeyedRing}
-use Rattle.frontier.specs.Entries.{EntryLists, entries_at, entry_count}
+use Rattle.frontier.specs.declared.entries.EntryRing.{EntryRing}
+use Rattle.frontier.specs.Entries.{IsAdded, entry_count}
 use Rattle.frontier.specs.Keyed.{IsPutInto, StandsAt, TakesBucket}
 use Rattle.deltastep.specs.declared.questions.guided.KeyedSearch.{KeyedSearch}
 use Rattle.deltastep.specs.Search.{top_of, Trip, trip_length, Reaches, IsRelaxedBut, IsBetweenBuckets}
@@ -24,6 +24,7 @@ use Rattle.deltastep.proofs.Lowering.{value_or-some, value_or-set_same, value_or
 use Rattle.deltastep.proofs.Queues.{get-insert_other}
 use Rattle.deltastep.proofs.Relaxing.{Reaches-push}
 use Rattle.deltastep.proofs.Starting.{IsBetweenBuckets-first, blank, positive_top}
+use Rattle.frontier.proofs.Keying.{IsPutInto-added}
 use Rattle.frontier.proofs.Members.{Contains-head, Contains-nil}
 
 trip_length-cons : (leg : Leg) (legs : List Leg) → trip_length (leg ∷ legs) ≡ leg.length + trip_length legs
@@ -242,7 +243,7 @@ module _ (groups : Groups) (grouped : IsGrouped groups) (target width start : �
       → HasMet groups target width start u x (legs ++ leg ∷ []) old queue n s'.tentative (stands_in s'.ring) (entry_count s'.ring.lists.items)
   HasMet-more legs s s' wide so_far within end small None low same to below =
       subst (λ t. HasMet groups target width start u x (legs ++ leg ∷ []) old queue n t (stands_in s'.ring) (entry_count s'.ring.lists.items)) (sym same.0)
-      (subst (λ (r : KeyedRing). HasMet groups target width start u x (legs ++ leg ∷ []) old queue n s.tentative (stands_in r) (entry_count r.lists.items)) (sym same.1)
+      (subst (λ (r : EntryRing). HasMet groups target width start u x (legs ++ leg ∷ []) old queue n s.tentative (stands_in r) (entry_count r.lists.items)) (sym same.1)
       (HasMet-kept legs s.tentative (stands_in s.ring) (entry_count s.ring.lists.items) so_far low))
   HasMet-more legs s s' wide so_far within end small (Some k) lower changed to below =
       let put : IsPutInto (stands_in s.ring) (stands_in s'.ring) (k / width) (leg.head, through) = subst (λ w. IsPutInto (stands_in s.ring) (stands_in s'.ring) (k / w) (leg.head, through)) wide changed.queued in
@@ -321,9 +322,9 @@ none_is_none : (o : Option ℕ) → o ≡ None → IsSome o → ⊥
 none_is_none None e h = absurd (let absurdity : ⊥ = cc in absurdity)
 none_is_none (Some x) e h = absurd (let absurdity : ⊥ = cc in absurdity)
 
--- nothing stands in empty lists
-pub nothing_stands : (last : ℕ) (lists : EntryLists) → ((p : ℕ) → entries_at lists p ≡ []) → (b : ℕ) (e : ℕ × ℕ) → StandsAt last lists b e → ⊥
-nothing_stands last lists none b e at = Contains-nil e (subst (λ (l : List (ℕ × ℕ)). Contains l e) (none (b % length lists)) at.member)
+-- an entry that was added to a list stands in its bucket
+pub put_in : (old new : EntryRing) (b : ℕ) (e : ℕ × ℕ) → IsAdded old.lists.items new.lists.items (b % length old.lists.items) e → length new.lists.items ≡ length old.lists.items → new.last ≡ old.last → IsBucketWithin old.last (length old.lists.items) b → IsPutInto (stands_in old) (stands_in new) b e
+put_in old new b e added size last fits = subst (λ l. IsPutInto (stands_in old) (StandsAt l new.lists.items) b e) (sym last) (IsPutInto-added old.last b old.lists.items new.lists.items e added size fits)
 
 pub put_first : (old new : ℕ → ℕ × ℕ → Type 0) (b : ℕ) (e : ℕ × ℕ) → ((c : ℕ) (f : ℕ × ℕ) → old c f → ⊥) → IsPutInto old new b e → IsPutInto (λ c f. ⊥) new b e
 put_first old new b e none put c f = (λ h. elim ((put c f).0 h) as (λ _. ⊥ ⊎ ((c ≡ b) × (e ≡ f))) [ inl was ↦ inl (none c f was) | inr is ↦ inr is ], λ either. elim either as (λ _. new c f) [ inl was ↦ absurd was | inr is ↦ (put c f).1 (inr is) ])
@@ -392,13 +393,13 @@ value_at_most groups t v most within test passed =
 
 -- ---- of a search by keys
 
-pub KeepsWindow-none : (a : KeyedRing) → KeepsWindow a a
+pub KeepsWindow-none : (a : EntryRing) → KeepsWindow a a
 KeepsWindow-none a = record { width = refl; last = refl; size = refl }
 
-pub KeepsWindow-then : (a b c : KeyedRing) → KeepsWindow a b → KeepsWindow b c → KeepsWindow a c
+pub KeepsWindow-then : (a b c : EntryRing) → KeepsWindow a b → KeepsWindow b c → KeepsWindow a c
 KeepsWindow-then a b c first next = record { width = next.width ∙ first.width; last = next.last ∙ first.last; size = next.size ∙ first.size }
 
-pub fits_kept : (a b : KeyedRing) (start end : ℕ) → KeepsWindow a b → ((v : ℕ) → start ≤ v → v ≤ end → IsBucketWithin a.last (length a.lists.items) (v / a.delta)) → (v : ℕ) → start ≤ v → v ≤ end → IsBucketWithin b.last (length b.lists.items) (v / b.delta)
+pub fits_kept : (a b : EntryRing) (start end : ℕ) → KeepsWindow a b → ((v : ℕ) → start ≤ v → v ≤ end → IsBucketWithin a.last (length a.lists.items) (v / a.delta)) → (v : ℕ) → start ≤ v → v ≤ end → IsBucketWithin b.last (length b.lists.items) (v / b.delta)
 fits_kept a b start end keeps fits v low high =
     subst (λ d. IsBucketWithin b.last (length b.lists.items) (v / d)) (sym keeps.width)
     (subst (λ n. IsBucketWithin b.last n (v / a.delta)) (sym keeps.size)

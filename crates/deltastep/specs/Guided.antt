@@ -14,7 +14,7 @@ use Rattle.relax.specs.Values.{value_at, value_or}
 use Rattle.snapshot.specs.Groups.{Groups, IsGrouped, legs_of}
 use Rattle.snapshot.specs.declared.legs.Leg.{Leg}
 use Rattle.snapshot.specs.declared.legs.Part.{Part}
-use Rattle.frontier.specs.declared.keyed.KeyedRing.{KeyedRing}
+use Rattle.frontier.specs.declared.entries.EntryRing.{EntryRing}
 use Rattle.frontier.specs.Entries.{entry_count}
 use Rattle.frontier.specs.Keyed.{IsPutInto, StandsAt}
 use Rattle.deltastep.specs.declared.questions.guided.KeyedSearch.{KeyedSearch}
@@ -79,7 +79,7 @@ KeyStaysBelow Knows target node value start key =
 -- ---- of a search by keys
 
 -- which entry of a ring stands in which bucket
-abbrev pub stands_in : KeyedRing → ℕ → ℕ × ℕ → Type 0
+abbrev pub stands_in : EntryRing → ℕ → ℕ × ℕ → Type 0
 stands_in ring = StandsAt ring.last ring.lists.items
 
 abbrev pub IsUnderWayTo : Groups → (source target : ℕ) → KeyedSearch → Type 0
@@ -92,7 +92,7 @@ abbrev pub GoesOnTo : Groups → (target start : ℕ) → KeyedSearch → KeyedS
 GoesOnTo groups target start old new = SearchGoesOn groups target old.ring.delta start old.tentative (stands_in old.ring) (entry_count old.ring.lists.items) new.tentative (stands_in new.ring) (entry_count new.ring.lists.items)
 
 -- it keeps the width of its buckets, and those that fit
-pub record KeepsWindow (old new : KeyedRing) : Type 0 where
+pub record KeepsWindow (old new : EntryRing) : Type 0 where
   pub width : new.delta ≡ old.delta
   pub last : new.last ≡ old.last
   pub size : length new.lists.items ≡ length old.lists.items

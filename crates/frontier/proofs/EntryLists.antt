@@ -1,15 +1,15 @@
 -- Lists of entries after one is added, and after one list is taken.
-use Rattle.std.proofs.Common.{◌≡◌, ◌≢◌, ◌^◌, ℕ, zero, suc, ◌+◌, ◌*◌, ◌/◌, ◌%◌, ◌<◌, ◌≤◌, ◌⊎◌, ◌++◌, List, [], ◌∷◌, length, set, get_or, Contains, Option, sum_by, refl, sym, ap, subst, ◌∙◌, inl, inr, arith, length-append}
+use Rattle.std.proofs.Common.{◌≡◌, ◌≢◌, ◌^◌, ℕ, ◌+◌, ◌-◌, ◌*◌, ◌/◌, ◌%◌, ◌<◌, ◌≤◌, ◌⊎◌, ◌++◌, List, [], ◌∷◌, length, set, get_or, Contains, Option, sum_by, refl, sym, ap, subst, ◌∙◌, inl, inr, arith, length-append, mod-lt}
 use Rattle.std.specs.Option.{option_map_or}
 use Rattle.std.specs.Global.{Vec}
-use Rattle.std.proofs.Math.Nat.{div-le_self}
 use Rattle.std.proofs.lemmas.Bool.{cases_eq, cases_lt}
 use Rattle.std.proofs.lemmas.List.Elements.{Contains-push_cases}
 use Rattle.std.proofs.lemmas.List.Sums.{sum_by-set}
 use Rattle.std.proofs.lemmas.Option.{slice_get-get_or, slice_get_past}
 use Rattle.buckets.specs.Places.{place_bit}
-use Rattle.buckets.proofs.Ringed.{slice_get-set_same, slice_get-set_other, mod_apart}
-use Rattle.frontier.specs.Entries.{EntryLists, entries_at, entry_count, AreInPlace, AreMarked, IsAdded, IsInPlace, TakesFirst}
+use Rattle.buckets.specs.Rings.{IsBucketWithin}
+use Rattle.buckets.proofs.Ringed.{slice_get-set_same, slice_get-set_other, mod_apart, mod_more, mod_round}
+use Rattle.frontier.specs.Entries.{EntryLists, entries_at, entry_count, AreInPlace, AreMarked, AreSmall, IsAdded, IsInPlace, TakesFirst, TakesNext}
 
 -- ---- lists
 
@@ -106,81 +106,103 @@ AreMarked-none lists marks none covers off = record {
       (λ is. absurd (let absurdity : ⊥ = omega (arith, is, off q) in absurdity), λ some. absurd (let absurdity : ⊥ = omega arith in absurdity));
 }
 
+-- of the buckets of a window only one has a place
+pub same_bucket : (last n a b : ℕ) → IsBucketWithin last n a → IsBucketWithin last n b → a % n ≡ b % n → a ≡ b
+same_bucket last n a b at_a at_b same = elim (cases_lt a b) as (λ _. a ≡ b) [
+  | inl lt ↦ absurd (mod_apart a b n lt (omega (arith, at_a.0, at_b.1)) (sym same))
+  | inr le ↦ elim (cases_lt b a) as (λ _. a ≡ b) [
+    | inl lt ↦ absurd (mod_apart b a n lt (omega (arith, at_b.0, at_a.1)) same)
+    | inr more ↦ omega arith
+  ]
+]
+
+pub AreSmall-put : (last b : ℕ) (old new : EntryLists) (e : ℕ × ℕ) → IsAdded old new (b % length old) e → length new ≡ length old → IsBucketWithin last (length old) b → b < 2 ^ 64 → AreSmall last old → AreSmall last new
+AreSmall-put last b old new e added size fits small was c at some =
+    let window : IsBucketWithin last (length old) c = subst (λ n. IsBucketWithin last n c) size at in
+    let there : 0 < length (entries_at new (c % length old)) = subst (λ n. 0 < length (entries_at new (c % n))) size some in
+    elim (cases_eq (c % length old) (b % length old)) as (λ _. c < 2 ^ 64) [
+      | inl is ↦ omega (arith, small, same_bucket last (length old) c b window fits is)
+      | inr ne ↦ was c window (subst (λ (l : List (ℕ × ℕ)). 0 < length l) (added.others (c % length old) ne) there)
+    ]
+
+-- ---- buckets that have entries
+
+pub AreSmall-same : (last : ℕ) (old new : EntryLists) → ((p : ℕ) → entries_at new p ≡ entries_at old p) → length new ≡ length old → AreSmall last old → AreSmall last new
+AreSmall-same last old new same size was c at some =
+    let there : 0 < length (entries_at new (c % length old)) = subst (λ n. 0 < length (entries_at new (c % n))) size some in
+    was c (subst (λ n. IsBucketWithin last n c) size at) (subst (λ (l : List (ℕ × ℕ)). 0 < length l) (same (c % length old)) there)
+
+pub AreSmall-none : (last : ℕ) (lists : EntryLists) → ((p : ℕ) → entries_at lists p ≡ []) → AreSmall last lists
+AreSmall-none last lists none c at some = absurd (let long : length (entries_at lists (c % length lists)) ≡ 0 = ap (λ (l : List (ℕ × ℕ)). length l) (none (c % length lists)) in let absurdity : ⊥ = omega arith in absurdity)
+
 -- ---- a list is taken
 
--- the bucket of an entry of a list that is marked
-pub record IsFound (width last size : ℕ) (marks : List ℕ) : Type 0 where
-  pub bucket : ℕ
-  pub low : last ≤ bucket
-  pub high : bucket < last + size
-  pub small : bucket < 2 ^ 64
-  pub on : place_bit marks (bucket % size) ≡ 1
+-- the bucket of a place
+record IsBucketOf (last n p : ℕ) : Type 0 where
+  bucket : ℕ
+  window : IsBucketWithin last n bucket
+  place : bucket % n ≡ p
+
+bucket_of : (last n p : ℕ) → p < n → IsBucketOf last n p
+bucket_of last n p within =
+    let less : last % n < n = mod-lt last (omega arith) in
+    elim (cases_lt p (last % n)) as (λ _. IsBucketOf last n p) [
+      | inl lt ↦ record { bucket = last + (n - last % n + p); window = (omega arith, omega arith); place = mod_round last (n - last % n + p) n (omega arith) (omega arith) ∙ (let back : last % n + (n - last % n + p) - n ≡ p = omega arith in back) }
+      | inr le ↦ record { bucket = last + (p - last % n); window = (omega arith, omega arith); place = mod_more last (p - last % n) n (omega arith) ∙ (let back : last % n + (p - last % n) ≡ p = omega arith in back) }
+    ]
 
 pub marked_within : (lists : EntryLists) (marks : List ℕ) → AreMarked lists marks → (p : ℕ) → place_bit marks p ≡ 1 → p < length lists
 marked_within lists marks full p on = place_within lists p ((full.marked p).0 on)
 
-pub found : (width last : ℕ) (lists : EntryLists) (marks : List ℕ) → AreMarked lists marks → AreInPlace width last lists → (p : ℕ) → place_bit marks p ≡ 1 → IsFound width last (length lists) marks
-found width last lists marks full within p on =
-    let e = first_entry (entries_at lists p) ((full.marked p).0 on) in
-    let is = within p e.0 e.1 in
-    let less : e.0.1 / width ≤ e.0.1 = div-le_self e.0.1 width in
+-- where a place is not marked its list has no entry
+pub none_marked : (lists : EntryLists) (marks : List ℕ) → AreMarked lists marks → (p : ℕ) → place_bit marks p ≡ 0 → entries_at lists p ≡ []
+none_marked lists marks full p off = elim (entries_at lists p) as (λ (l : List (ℕ × ℕ)). entries_at lists p ≡ l → l ≡ []) [
+  | [] ↦ λ e. refl
+  | e ∷ l ↦ λ is. absurd (let long : length (entries_at lists p) ≡ length (e ∷ l) = ap (λ (l : List (ℕ × ℕ)). length l) is in let on : place_bit marks p ≡ 1 = (full.marked p).1 (omega (arith, long)) in let absurdity : ⊥ = omega (arith, on, off) in absurdity)
+] refl
+
+-- some bucket of the window has an entry
+record IsFound (last size : ℕ) (marks : List ℕ) : Type 0 where
+  bucket : ℕ
+  low : last ≤ bucket
+  high : bucket < last + size
+  small : bucket < 2 ^ 64
+  on : place_bit marks (bucket % size) ≡ 1
+
+-- the bucket of a place that is marked
+found_small : (last : ℕ) (lists : EntryLists) (marks : List ℕ) → AreMarked lists marks → AreSmall last lists → (p : ℕ) → place_bit marks p ≡ 1 → IsFound last (length lists) marks
+found_small last lists marks full small p on =
+    let is = bucket_of last (length lists) p (marked_within lists marks full p on) in
+    record { bucket = is.bucket; low = is.window.0; high = is.window.1; small = small is.bucket is.window (subst (λ q. 0 < length (entries_at lists q)) (sym is.place) ((full.marked p).0 on)); on = ap (place_bit marks) is.place ∙ on }
+
+-- the bucket that is taken next, with its place
+pub record IsNextBucket (last : ℕ) (lists : EntryLists) (marks : List ℕ) (b place : ℕ) : Type 0 where
+  pub between : (c : ℕ) → last ≤ c → c < b → c < last + length lists → place_bit marks (c % length lists) ≡ 0
+  pub near : b < last + length lists
+  pub at : place ≡ b % length lists
+  pub on : place_bit marks place ≡ 1
+
+pub next_bucket : (last : ℕ) (lists : EntryLists) (marks : List ℕ) → AreMarked lists marks → AreSmall last lists → (size : ℕ) → size ≡ length lists → (p : ℕ) → place_bit marks p ≡ 1 → (b place : ℕ) → last ≤ b
+    → ((c : ℕ) → last ≤ c → c < b → c < last + size → place_bit marks (c % size) ≡ 0)
+    → ((c : ℕ) → last ≤ c → c < last + size → c < 2 ^ 64 → place_bit marks (c % size) ≡ 1 → place_bit marks (b % size) ≡ 1)
+    → ((c : ℕ) → last ≤ c → c < last + size → c < 2 ^ 64 → place_bit marks (c % size) ≡ 1 → place ≡ b % size)
+    → IsNextBucket last lists marks b place
+next_bucket last lists marks full small size e p some b place far between marked at =
+    let Off : ℕ → Type 0 = λ n. (c : ℕ) → last ≤ c → c < b → c < last + n → place_bit marks (c % n) ≡ 0 in
+    let On : ℕ → Type 0 = λ n. (c : ℕ) → last ≤ c → c < last + n → c < 2 ^ 64 → place_bit marks (c % n) ≡ 1 → place_bit marks (b % n) ≡ 1 in
+    let At : ℕ → Type 0 = λ n. (c : ℕ) → last ≤ c → c < last + n → c < 2 ^ 64 → place_bit marks (c % n) ≡ 1 → place ≡ b % n in
+    let is = found_small last lists marks full small p some in
+    let off : Off (length lists) = subst Off e between in
+    let there : place ≡ b % length lists = subst At e at is.bucket is.low is.high is.small is.on in
     record {
-      bucket = e.0.1 / width;
-      low = is.window.0;
-      high = is.window.1;
-      small = omega (arith, less, is.small);
-      on = ap (place_bit marks) is.place ∙ on;
+      between = off;
+      near = elim (cases_lt is.bucket b) as (λ _. b < last + length lists) [
+        | inl lt ↦ absurd (let none : place_bit marks (is.bucket % length lists) ≡ 0 = off is.bucket is.low lt is.high in let absurdity : ⊥ = omega (arith, is.on, none) in absurdity)
+        | inr le ↦ omega (arith, le, is.high)
+      ];
+      at = there;
+      on = ap (place_bit marks) there ∙ subst On e marked is.bucket is.low is.high is.small is.on;
     }
-
-module _ (width last : ℕ) (lists : EntryLists) (marks : List ℕ) (full : AreMarked lists marks) (within : AreInPlace width last lists) (b : ℕ) (far : last ≤ b) (between : (c : ℕ) → last ≤ c → c < b → c < last + length lists → place_bit marks (c % length lists) ≡ 0) where
-  pub least_entry : (p : ℕ) (e : ℕ × ℕ) → Contains (entries_at lists p) e → b ≤ e.1 / width
-  least_entry p e c =
-      let is = within p e c in
-      let on : place_bit marks ((e.1 / width) % length lists) ≡ 1 = ap (place_bit marks) is.place ∙ (full.marked p).1 (some_member (entries_at lists p) e c) in
-      elim (cases_lt (e.1 / width) b) as (λ _. b ≤ e.1 / width) [
-        | inl lt ↦ absurd (let off : place_bit marks ((e.1 / width) % length lists) ≡ 0 = between (e.1 / width) is.window.0 lt is.window.1 in let absurdity : ⊥ = omega (arith, on, off) in absurdity)
-        | inr le ↦ le
-      ]
-
-  pub entry_within : (e : ℕ × ℕ) → Contains (entries_at lists (b % length lists)) e → e.1 / width ≡ b
-  entry_within e c =
-      let is = within (b % length lists) e c in
-      let low : b ≤ e.1 / width = least_entry (b % length lists) e c in
-      let high : e.1 / width < last + length lists = is.window.1 in
-      elim (cases_lt b (e.1 / width)) as (λ _. e.1 / width ≡ b) [
-        | inl lt ↦ absurd (mod_apart b (e.1 / width) (length lists) lt (omega arith) is.place)
-        | inr le ↦ omega arith
-      ]
-
-  module _ (place : ℕ) (at : place ≡ b % length lists) (on : place_bit marks place ≡ 1) (none : Vec (ℕ × ℕ)) (is_none : none.items ≡ []) (taken : List (ℕ × ℕ)) (all : taken ≡ entries_at lists place) where
-    pub TakesFirst-exchanged : TakesFirst width lists (set lists place none) b taken
-    TakesFirst-exchanged =
-        let here : taken ≡ entries_at lists (b % length lists) = all ∙ ap (entries_at lists) at in
-        record {
-          some_entry = subst (λ (l : List (ℕ × ℕ)). 0 < length l) (sym all) ((full.marked place).0 on);
-          taken = here;
-          emptied = ap (entries_at (set lists place none)) (sym at) ∙ (entries_at-set_same lists place none (marked_within lists marks full place on) ∙ is_none);
-          others = λ q ne. entries_at-set_other lists place q none (λ e. ne (e ∙ at));
-          within = λ e c. entry_within e (subst (λ (l : List (ℕ × ℕ)). Contains l e) here c);
-          least = least_entry;
-        }
-
-    pub AreInPlace-taken : AreInPlace width b (set lists place none)
-    AreInPlace-taken q e c =
-        elim (cases_eq q place) as (λ _. IsInPlace width b (length (set lists place none)) q e.1) [
-          | inl same ↦ absurd (Contains-none e (subst (λ (l : List (ℕ × ℕ)). Contains l e) (ap (entries_at (set lists place none)) same ∙ (entries_at-set_same lists place none (marked_within lists marks full place on) ∙ is_none)) c))
-          | inr ne ↦
-              let there : Contains (entries_at lists q) e = subst (λ (l : List (ℕ × ℕ)). Contains l e) (entries_at-set_other lists place q none ne) c in
-              let is = within q e there in
-              let high : e.1 / width < last + length lists = is.window.1 in
-              subst (λ n. IsInPlace width b n q e.1) (sym (length-set_it lists place none))
-              (record { small = is.small; window = (least_entry q e there, omega arith); place = is.place })
-        ]
-      where
-        length-set_it : (xs : EntryLists) (i : ℕ) (v : Vec (ℕ × ℕ)) → length (set xs i v) ≡ length xs
-        length-set_it [] i v = refl
-        length-set_it (x ∷ xs) zero v = refl
-        length-set_it (x ∷ xs) (suc i) v = ap (λ n. suc n) (length-set_it xs i v)
 
 -- ---- a list whose place is marked is emptied
 module _ (lists : EntryLists) (marks : List ℕ) (full : AreMarked lists marks) (place : ℕ) (on : place_bit marks place ≡ 1) (none : Vec (ℕ × ℕ)) (is_none : none.items ≡ []) where
@@ -207,3 +229,70 @@ module _ (lists : EntryLists) (marks : List ℕ) (full : AreMarked lists marks) 
           (λ is. omega (arith, long, (full.marked q).0 (sym (others q ne) ∙ is)), λ some. others q ne ∙ (full.marked q).1 (omega arith))
     ];
   }
+
+-- the list of the bucket that is taken next is exchanged for an empty one
+pub TakesNext-exchanged : (last : ℕ) (lists : EntryLists) (marks : List ℕ) → AreMarked lists marks → (b place : ℕ) → last ≤ b → IsNextBucket last lists marks b place → (none : Vec (ℕ × ℕ)) → none.items ≡ [] → (taken : List (ℕ × ℕ)) → taken ≡ entries_at lists place → TakesNext last lists (set lists place none) b taken
+TakesNext-exchanged last lists marks full b place far next none is_none taken all = record {
+  some_entry = subst (λ (l : List (ℕ × ℕ)). 0 < length l) (sym all) ((full.marked place).0 next.on);
+  window = (far, next.near);
+  taken = all ∙ ap (entries_at lists) next.at;
+  emptied = ap (entries_at (set lists place none)) (sym next.at) ∙ (entries_at-set_same lists place none (marked_within lists marks full place next.on) ∙ is_none);
+  others = λ q ne. entries_at-set_other lists place q none (λ e. ne (e ∙ next.at));
+  least = λ c low lt. none_marked lists marks full (c % length lists) (next.between c low lt (omega (arith, next.near)));
+}
+
+-- ---- what stays where a list was taken
+module _ (last b : ℕ) (old new : EntryLists) (list : List (ℕ × ℕ)) (size : length new ≡ length old) (takes : TakesNext last old new b list) where
+  -- no bucket before it has an entry
+  pub least_bucket : (c : ℕ) → IsBucketWithin last (length old) c → 0 < length (entries_at old (c % length old)) → b ≤ c
+  least_bucket c at some = elim (cases_lt c b) as (λ _. b ≤ c) [
+    | inl lt ↦ absurd (let long : length (entries_at old (c % length old)) ≡ 0 = ap (λ (l : List (ℕ × ℕ)). length l) (takes.least c at.0 lt) in let absurdity : ⊥ = omega arith in absurdity)
+    | inr le ↦ le
+  ]
+
+  -- a list that has an entry was not taken
+  pub was_listed : (q : ℕ) → 0 < length (entries_at new q) → (q ≢ b % length old) × (0 < length (entries_at old q))
+  was_listed q some =
+      let ne : q ≢ b % length old = λ e. absurd (let long : length (entries_at new q) ≡ 0 = ap (λ (l : List (ℕ × ℕ)). length l) (ap (entries_at new) e ∙ takes.emptied) in let absurdity : ⊥ = omega arith in absurdity) in
+      (ne, subst (λ (l : List (ℕ × ℕ)). 0 < length l) (takes.others q ne) some)
+
+  -- .. and its bucket lies in both windows
+  pub was_bucket : (c : ℕ) → IsBucketWithin b (length old) c → 0 < length (entries_at new (c % length old)) → IsBucketWithin last (length old) c × (0 < length (entries_at old (c % length old)))
+  was_bucket c window some =
+      let was = was_listed (c % length old) some in
+      let is = bucket_of last (length old) (c % length old) (place_within old (c % length old) was.1) in
+      let low : b ≤ is.bucket = least_bucket is.bucket is.window (subst (λ q. 0 < length (entries_at old q)) (sym is.place) was.1) in
+      let same : is.bucket ≡ c = same_bucket b (length old) is.bucket c (low, omega (arith, is.window.1, takes.window.0)) window is.place in
+      (subst (λ d. IsBucketWithin last (length old) d) same is.window, was.1)
+
+  pub AreSmall-next : AreSmall last old → AreSmall b new
+  AreSmall-next small c at some =
+      let there : 0 < length (entries_at new (c % length old)) = subst (λ n. 0 < length (entries_at new (c % n))) size some in
+      let was = was_bucket c (subst (λ n. IsBucketWithin b n c) size at) there in
+      small c was.0 was.1
+
+  module _ (width : ℕ) (within : AreInPlace width last old) where
+    least_entry : (p : ℕ) (e : ℕ × ℕ) → Contains (entries_at old p) e → b ≤ e.1 / width
+    least_entry p e c =
+        let is = within p e c in
+        least_bucket (e.1 / width) is.window (subst (λ q. 0 < length (entries_at old q)) (sym is.place) (some_member (entries_at old p) e c))
+
+    pub TakesFirst-next : TakesFirst width old new b list
+    TakesFirst-next = record {
+      some_entry = takes.some_entry;
+      taken = takes.taken;
+      emptied = takes.emptied;
+      others = takes.others;
+      within = λ e c.
+          let is = within (b % length old) e (subst (λ (l : List (ℕ × ℕ)). Contains l e) takes.taken c) in
+          same_bucket last (length old) (e.1 / width) b is.window takes.window is.place;
+      least = least_entry;
+    }
+
+    pub AreInPlace-next : AreInPlace width b new
+    AreInPlace-next q e c =
+        let ne : q ≢ b % length old = (was_listed q (some_member (entries_at new q) e c)).0 in
+        let there : Contains (entries_at old q) e = subst (λ (l : List (ℕ × ℕ)). Contains l e) (takes.others q ne) c in
+        let is = within q e there in
+        subst (λ n. IsInPlace width b n q e.1) (sym size)
+        (record { small = is.small; window = (least_entry q e there, omega (arith, is.window.1, takes.window.0)); place = is.place })

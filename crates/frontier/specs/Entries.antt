@@ -3,6 +3,7 @@
 --     AreInPlace width last lists        each entry stands in the list of its bucket, which is one of as many in a row from `last` on as there are lists
 --     AreMarked lists marks              just the places of the lists that have an entry are marked
 --     IsAdded old new p e                the entry was added to the list p, and nothing else
+--     TakesNext last old new b list      the list is that of bucket b, and is emptied; those of the buckets from `last` on to b are empty, and all others stay
 --     TakesFirst width old new b list    the list has all entries of the least bucket that has any, and they are gone from there
 --     IsFresh delta last lists width size     a search can begin with it that asks for `size` buckets in a row of this width: it has no entry, and bucket 0 is the first that fits
 use Rattle.std.specs.Prelude.{◌≡◌, ◌≢◌, ℕ, ◌*◌, ◌/◌, ◌%◌, ◌^◌, ◌<◌, ◌≤◌, ◌↔◌, ◌++◌, List, [], ◌∷◌, length, sum_by, Contains}
@@ -37,6 +38,18 @@ pub record IsAdded (old new : EntryLists) (p : ℕ) (e : ℕ × ℕ) : Type 0 wh
 -- how many entries there are
 abbrev pub entry_count : EntryLists → ℕ
 entry_count lists = sum_by (λ (entries : Vec (ℕ × ℕ)). length entries.items) lists
+
+-- each bucket of a window whose list has an entry is a number of 64 bits
+abbrev pub AreSmall : ℕ → EntryLists → Type 0
+AreSmall last lists = (b : ℕ) → IsBucketWithin last (length lists) b → 0 < length (entries_at lists (b % length lists)) → b < 2 ^ 64
+
+pub record TakesNext (last : ℕ) (old new : EntryLists) (b : ℕ) (list : List (ℕ × ℕ)) : Type 0 where
+  pub some_entry : 0 < length list
+  pub window : IsBucketWithin last (length old) b
+  pub taken : list ≡ entries_at old (b % length old)
+  pub emptied : entries_at new (b % length old) ≡ []
+  pub others : (q : ℕ) → q ≢ b % length old → entries_at new q ≡ entries_at old q
+  pub least : (c : ℕ) → last ≤ c → c < b → entries_at old (c % length old) ≡ []
 
 pub record TakesFirst (width : ℕ) (old new : EntryLists) (b : ℕ) (list : List (ℕ × ℕ)) : Type 0 where
   pub some_entry : 0 < length list

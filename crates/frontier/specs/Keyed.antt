@@ -1,18 +1,14 @@
 -- Entries, a node with a value each, in a ring of lists: each stands in the list of a bucket that was given with it.
 --     StandsAt last lists b e      the entry stands in the list of bucket b, one of as many in a row from `last` on as there are lists
---     AreSmall last lists          each such bucket whose list has an entry is a number of 64 bits
 --     IsPutInto old new b e        the entry stands in bucket b, and all others stand where they stood
 --     TakesBucket old new b list   the list has all entries of bucket b, none stands in a bucket before it, and all others stand where they stood
-use Rattle.std.specs.Prelude.{◌≡◌, ◌≢◌, ℕ, ◌<◌, ◌≤◌, ◌%◌, ◌^◌, ◌⊎◌, ◌↔◌, List, length, Contains}
+use Rattle.std.specs.Prelude.{◌≡◌, ◌≢◌, ℕ, ◌≤◌, ◌%◌, ◌⊎◌, ◌↔◌, List, length, Contains}
 use Rattle.buckets.specs.Rings.{IsBucketWithin}
 use Rattle.frontier.specs.Entries.{EntryLists, entries_at}
 
 pub record StandsAt (last : ℕ) (lists : EntryLists) (b : ℕ) (e : ℕ × ℕ) : Type 0 where
   pub window : IsBucketWithin last (length lists) b
   pub member : Contains (entries_at lists (b % length lists)) e
-
-abbrev pub AreSmall : ℕ → EntryLists → Type 0
-AreSmall last lists = (b : ℕ) → IsBucketWithin last (length lists) b → 0 < length (entries_at lists (b % length lists)) → b < 2 ^ 64
 
 abbrev pub IsPutInto : (ℕ → ℕ × ℕ → Type 0) → (ℕ → ℕ × ℕ → Type 0) → ℕ → ℕ × ℕ → Type 0
 IsPutInto old new b e = (c : ℕ) (f : ℕ × ℕ) → new c f ↔ (old c f ⊎ ((c ≡ b) × (e ≡ f)))

@@ -1,16 +1,16 @@
-//! Entries in a ring of lists, by the buckets of their values.
+//! Entries in a ring of lists, by the buckets of keys.
 
 ghost use Rattle.std.specs.Prelude.{◌≡◌, ◌≢◌, ℕ, ◌<◌, ◌≤◌, ◌+◌, ◌-◌, ◌/◌, ◌%◌, ◌++◌, [], ◌∷◌, min, set, OnOk, OnErr, IfOk, MatchOption, length};
 ghost use Rattle.buckets.specs.Rings.{IsBucketWithin};
 ghost use Rattle.std.specs.Bool.{OnTrue};
-ghost use Rattle.frontier.specs.Entries.{AreInPlace, AreMarked, IsAdded, IsFresh, TakesFirst, entries_at, entry_count};
+ghost use Rattle.frontier.specs.Entries.{AreMarked, AreSmall, IsAdded, IsFresh, TakesNext, entries_at, entry_count};
 
 use buckets::{Places, buckets_between, next_marked};
 use std::alloc::{AllocError, Global};
 use std::mem::swap;
 
 /// This many empty lists.
-pub(crate) fn empty_lists(alloc: Global, size: u32) -> Result<Vec<Vec<(u32, u64)>>, AllocError>
+fn empty_lists(alloc: Global, size: u32) -> Result<Vec<Vec<(u32, u64)>>, AllocError>
     ensures len { IfOk result (λ lists. length lists.items ≡ size) }
     ensures empty { IfOk result (λ lists. (p : ℕ) → entries_at lists.items p ≡ []) }
 {
@@ -61,7 +61,7 @@ fn push_to(
 
 /// Adds the entry at the end of the list of this number. If memory runs out, each list is as it was.
 #[inline(always)]
-pub(crate) fn push(
+fn push(
     lists: &mut Vec<Vec<(u32, u64)>>,
     spares: &mut Vec<Vec<(u32, u64)>>,
     list: usize,
@@ -78,7 +78,7 @@ pub(crate) fn push(
 
 /// Sets the places of a list aside whose entries were taken, if they are many.
 #[inline(always)]
-pub(crate) fn set_aside(spares: &mut Vec<Vec<(u32, u64)>>, entries: &mut Vec<(u32, u64)>)
+fn set_aside(spares: &mut Vec<Vec<(u32, u64)>>, entries: &mut Vec<(u32, u64)>)
     requires none { entries.old.items ≡ [] }
     ensures none { entries.new.items ≡ [] }
 {
@@ -91,7 +91,7 @@ pub(crate) fn set_aside(spares: &mut Vec<Vec<(u32, u64)>>, entries: &mut Vec<(u3
 
 /// Swaps the entries of the list with these.
 #[inline(always)]
-pub(crate) fn exchange(lists: &mut Vec<Vec<(u32, u64)>>, list: usize, entries: &mut Vec<(u32, u64)>)
+fn exchange(lists: &mut Vec<Vec<(u32, u64)>>, list: usize, entries: &mut Vec<(u32, u64)>)
     requires { list < length lists.old.items }
     ensures lists { lists.new.items ≡ set lists.old.items list entries.old }
     ensures entries { entries.new.items ≡ entries_at lists.old.items list }
@@ -100,7 +100,7 @@ pub(crate) fn exchange(lists: &mut Vec<Vec<(u32, u64)>>, list: usize, entries: &
 }
 
 /// How many entries these lists have room for, up to the greatest number of the type.
-pub(crate) fn places_of(lists: &[Vec<(u32, u64)>]) -> usize {
+fn places_of(lists: &[Vec<(u32, u64)>]) -> usize {
     let mut places: usize = 0;
     for list in lists {
         places = places.saturating_add(list.capacity());
@@ -108,9 +108,9 @@ pub(crate) fn places_of(lists: &[Vec<(u32, u64)>]) -> usize {
     places
 }
 
-/// Entries, each a node with a value, in a ring of lists: the list of bucket `b` is at the place `b` modulo the number of lists. An entry stays in its list
-/// until its bucket is taken. It takes 24 bytes a list, and 16 for each entry that it had at once, or twice that; what a bucket of many entries took serves
-/// the next ones.
+/// Entries, each a node with a value, in a ring of lists by a key that is given with them: bucket `b` has the entries whose key divided by `delta` is `b`, rounded
+/// down, and its list is at the place `b` modulo the number of lists. The keys are not kept. It takes 24 bytes a list, and 16 for each entry that it had at once,
+/// or twice that.
 #[derive(Drop)]
 pub struct EntryRing {
     pub(crate) delta: u32,
@@ -123,11 +123,11 @@ pub struct EntryRing {
     ghost some: { 1 ≤ length lists.items },
     ghost begins: { first ≡ last % length lists.items },
     ghost marked: { AreMarked lists.items marks },
-    ghost within: { AreInPlace delta last lists.items },
+    ghost small: { AreSmall last lists.items },
 }
 
 impl EntryRing {
-    /// An empty ring, of `size` buckets in a row from bucket 0 on. Each bucket spans `delta` values. The only error is lack of memory.
+    /// An empty ring, of `size` buckets in a row from bucket 0 on. Each bucket spans `delta` keys. The only error is lack of memory.
     pub fn new(alloc: Global, delta: u32, size: u32) -> Result<EntryRing, AllocError>
         requires positive { 1 ≤ delta }
         requires some { 1 ≤ size }
@@ -192,7 +192,7 @@ impl EntryRing {
         self.begin_at(0);
     }
 
-    /// How many values a bucket spans.
+    /// How many keys a bucket spans.
     #[inline(always)]
     pub fn delta(&self) -> u32
         ensures value { result ≡ self.now.delta }
@@ -204,7 +204,8 @@ impl EntryRing {
     /// How many lists there are.
     #[inline(always)]
     pub fn size(&self) -> usize
-        ensures { result ≡ length self.now.lists.items }
+        ensures value { result ≡ length self.now.lists.items }
+        ensures some { 1 ≤ length self.now.lists.items }
     {
         self.lists.len()
     }
@@ -234,45 +235,43 @@ impl EntryRing {
         self.last.saturating_add(self.size() as u64)
     }
 
-    /// The place of the list of a value that fits.
+    /// The place of the list of a key that fits.
     #[inline(always)]
-    fn place(&self, value: u64) -> usize
-        requires { IsBucketWithin self.now.last (length self.now.lists.items) (value / self.now.delta) }
-        ensures { result ≡ (value / self.now.delta) % length self.now.lists.items }
+    fn place(&self, key: u64) -> usize
+        requires { IsBucketWithin self.now.last (length self.now.lists.items) (key / self.now.delta) }
+        ensures { result ≡ (key / self.now.delta) % length self.now.lists.items }
     {
-        let ahead = self.ahead(value) as usize;
+        let ahead = self.ahead(key) as usize;
         let place = self.first + ahead;
         let size = self.size();
         if place < size { place } else { place - size }
     }
 
-    /// Adds an entry, in amortized O(1). If memory runs out, the entries are as they were.
+    /// Adds an entry to the bucket of a key, in amortized O(1). If memory runs out, the entries are as they were.
     #[inline(always)]
-    pub fn add(&mut self, node: u32, value: u64) -> Result<(), AllocError>
-        requires fits { IsBucketWithin self.old.last (length self.old.lists.items) (value / self.old.delta) }
-        ensures ok { OnOk result (IsAdded self.old.lists.items self.new.lists.items ((value / self.old.delta) % length self.old.lists.items) (node, value)) }
+    pub fn add(&mut self, key: u64, node: u32, value: u64) -> Result<(), AllocError>
+        requires fits { IsBucketWithin self.old.last (length self.old.lists.items) (key / self.old.delta) }
+        ensures ok { OnOk result (IsAdded self.old.lists.items self.new.lists.items ((key / self.old.delta) % length self.old.lists.items) (node, value)) }
         ensures err { OnErr result ((p : ℕ) → entries_at self.new.lists.items p ≡ entries_at self.old.lists.items p) }
         ensures size { length self.new.lists.items ≡ length self.old.lists.items }
         ensures width { self.new.delta ≡ self.old.delta }
         ensures last { self.new.last ≡ self.old.last }
     {
-        let place = self.place(value);
+        let place = self.place(key);
         push(&mut self.lists, &mut self.spares, place, node, value)?;
         self.marks.insert(place);
         Ok(())
     }
 
     /// Takes all entries of the least bucket that has any, in exchange for an empty list, and returns the bucket's number; nothing if there is no entry.
-    /// From then on the values of as many buckets fit as there are lists, beginning with that bucket.
+    /// From then on the keys of as many buckets fit as there are lists, beginning with that bucket.
     #[inline(always)]
     pub fn take(&mut self, entries: &mut Vec<(u32, u64)>) -> Option<u64>
         requires none { entries.old.items ≡ [] }
-        ensures taken { MatchOption result ((p : ℕ) → entries_at self.old.lists.items p ≡ []) (λ b. TakesFirst self.old.delta self.old.lists.items self.new.lists.items b entries.new.items) }
+        ensures taken { MatchOption result ((p : ℕ) → entries_at self.old.lists.items p ≡ []) (λ b. TakesNext self.old.last self.old.lists.items self.new.lists.items b entries.new.items) }
         ensures last { MatchOption result (self.new.last ≡ self.old.last) (λ b. self.new.last ≡ b) }
-        ensures far { MatchOption result (Unit {0}) (λ b. self.old.last ≤ b) }
         ensures unused { MatchOption result (entries.new ≡ entries.old) (λ _. Unit {0}) }
         ensures none { MatchOption result (self.new.lists ≡ self.old.lists) (λ _. entry_count self.new.lists.items < entry_count self.old.lists.items) }
-        ensures over { MatchOption result ((p : ℕ) → entries_at self.new.lists.items p ≡ []) (λ _. Unit {0}) }
         ensures size { length self.new.lists.items ≡ length self.old.lists.items }
         ensures width { self.new.delta ≡ self.old.delta }
     {

@@ -3,7 +3,7 @@
 ghost use Rattle.std.specs.Prelude.{◌≡◌, ℕ, ◌+◌, ◌≤◌, ◌<◌, ◌/◌, ◌^◌, ◌==◌, ◌++◌, ◌∷◌, List, [], true, Option, Some, IsSome, IsTrue, IsFalse, Contains, IfOk, OnOk, OnErr, MatchOption, All, length};
 ghost use Rattle.std.specs.List.{IsDistinct};
 ghost use Rattle.std.specs.FinMap as map;
-ghost use Rattle.frontier.specs.Entries.{IsFresh, entries_at, entry_count};
+ghost use Rattle.frontier.specs.Entries.{AreInPlace, IsFresh, entries_at, entry_count};
 ghost use Rattle.frontier.specs.Frontier.{TakesAny};
 ghost use Rattle.relax.specs.Values.{value_at, value_or};
 ghost use Rattle.frontier.specs.Live.{AreEntriesDealt, AreEntriesKept, AreJustQueued, CanStand, IsDealt, IsLeastOf, IsNowhere, all_queued, are_once, is_live, live_nodes, queued, standing};
@@ -32,6 +32,7 @@ pub struct LazyRing<V: SearchValues> {
     pub(crate) bag: Vec<(u32, u64)>,
     bound: u64,
     ghost none: { taken.items ≡ [] },
+    ghost within: { AreInPlace ring.delta ring.last ring.lists.items },
     ghost kept: { AreEntriesKept (V.values tentative) ring.delta bound ring.lists.items bag.items },
     ghost room: { bound ≤ ring.last + length ring.lists.items },
 }
@@ -116,6 +117,7 @@ fn put(
     requires from { ring.old.last ≤ value / ring.old.delta }
     requires room { bound ≤ ring.old.last + length ring.old.lists.items }
     requires small { value < u64.MAX }
+    ensures placed { AreInPlace ring.old.delta ring.old.last ring.old.lists.items → AreInPlace ring.new.delta ring.new.last ring.new.lists.items }
     ensures kept { (tentative : List (Option ℕ)) → AreEntriesKept tentative ring.old.delta bound ring.old.lists.items bag.old.items → CanStand tentative ring.old.lists.items bag.old.items (node, value) → AreEntriesKept tentative ring.old.delta bound ring.new.lists.items bag.new.items }
     ensures dealt { OnOk result ((tentative : List (Option ℕ)) → IsDealt tentative ring.old.delta (node, value) ring.old.lists.items bag.old.items ring.new.lists.items bag.new.items) }
     ensures err { OnErr result (((p : ℕ) → entries_at ring.new.lists.items p ≡ entries_at ring.old.lists.items p) × (bag.new.items ≡ bag.old.items)) }
@@ -124,7 +126,7 @@ fn put(
     ensures size { length ring.new.lists.items ≡ length ring.old.lists.items }
 {
     if is_near(ring, bound, value) {
-        return ring.add(node, value);
+        return ring.add(value, node, value);
     }
     bag.push((node, value))?;
     Ok(())
@@ -145,6 +147,7 @@ fn deal_one<V: SearchValues>(
     requires small { value < u64.MAX }
     requires lone { IsNowhere ring.old.lists.items bag.old.items (node, value) }
     requires kept { AreEntriesKept (V.values tentative.now) ring.old.delta bound ring.old.lists.items bag.old.items }
+    ensures placed { AreInPlace ring.old.delta ring.old.last ring.old.lists.items → AreInPlace ring.new.delta ring.new.last ring.new.lists.items }
     ensures kept { AreEntriesKept (V.values tentative.now) ring.old.delta bound ring.new.lists.items bag.new.items }
     ensures dealt { OnOk result (IsDealt (V.values tentative.now) ring.old.delta (node, value) ring.old.lists.items bag.old.items ring.new.lists.items bag.new.items) }
     ensures width { ring.new.delta ≡ ring.old.delta }
@@ -173,6 +176,7 @@ fn deal_all<V: SearchValues>(
     requires once { are_once entries.now ≡ true }
     requires none { (p : ℕ) → entries_at ring.old.lists.items p ≡ [] }
     requires empty { bag.old.items ≡ [] }
+    ensures placed { AreInPlace ring.new.delta ring.new.last ring.new.lists.items }
     ensures kept { AreEntriesKept (V.values tentative.now) ring.new.delta bound ring.new.lists.items bag.new.items }
     ensures dealt { OnOk result (AreEntriesDealt (V.values tentative.now) ring.new.delta entries.now (length entries.now) ring.new.lists.items bag.new.items) }
     ensures width { ring.new.delta ≡ ring.old.delta }
@@ -200,6 +204,7 @@ fn deal<V: SearchValues>(
     requires room { bound.old ≤ ring.old.last + length ring.old.lists.items }
     requires none { queued ring.old.delta ring.old.lists.items (V.values tentative.now) ≡ map.empty }
     ensures spare { spare.new.items ≡ [] }
+    ensures placed { AreInPlace ring.old.delta ring.old.last ring.old.lists.items → AreInPlace ring.new.delta ring.new.last ring.new.lists.items }
     ensures kept { AreEntriesKept (V.values tentative.now) ring.new.delta bound.new ring.new.lists.items bag.new.items }
     ensures room { bound.new ≤ ring.new.last + length ring.new.lists.items }
     ensures same { OnOk result (all_queued ring.new.delta ring.new.lists.items bag.new.items (V.values tentative.now) ≡ all_queued ring.old.delta ring.old.lists.items bag.old.items (V.values tentative.now)) }

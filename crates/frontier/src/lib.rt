@@ -3,7 +3,6 @@
 
 mod entries;
 mod frontier;
-mod keyed;
 mod lazy;
 mod lower;
 mod mended;
@@ -14,7 +13,6 @@ mod values;
 
 pub use entries::EntryRing;
 pub use frontier::Frontier;
-pub use keyed::KeyedRing;
 pub use lazy::LazyRing;
 pub use mended::Mended;
 pub use queued::Queued;

@@ -15,7 +15,7 @@ use crate::rows::distances::RowError;
 use crate::searches::search::top;
 use crate::searches::stepping::{MOST_LISTS, narrower};
 use crate::searches::workspace::Workspace;
-use frontier::KeyedRing;
+use frontier::EntryRing;
 use relax::Tentative;
 use snapshot::{Part, Snapshot};
 use std::alloc::Global;
@@ -90,7 +90,7 @@ fn lists_of_keys(snapshot: &Snapshot, width: u32) -> u32
 #[derive(Drop)]
 pub struct KeyedSearch {
     pub(crate) tentative: Tentative,
-    pub(crate) ring: KeyedRing,
+    pub(crate) ring: EntryRing,
 }
 
 impl KeyedSearch {
@@ -99,7 +99,7 @@ impl KeyedSearch {
         snapshot: &Snapshot,
         source: u32,
         tentative: Tentative,
-        ring: KeyedRing,
+        ring: EntryRing,
     ) -> Result<KeyedSearch, RowError>
         requires node { (1 ≤ source) × (source ≤ snapshot.now.nodes) }
         requires blank { tentative ≡ replicate (snapshot.now.nodes + 1) None }
@@ -319,8 +319,8 @@ fn guided_by<G: Guide>(
     target: u32,
     guide: &G,
     values: Tentative,
-    ring: KeyedRing,
-) -> Result<(Tentative, KeyedRing), RowError>
+    ring: EntryRing,
+) -> Result<(Tentative, EntryRing), RowError>
     requires blank { values ≡ replicate (snapshot.now.nodes + 1) None }
     requires source { (1 ≤ source) × (source ≤ snapshot.now.nodes) }
     requires target { (1 ≤ target) × (target ≤ snapshot.now.nodes) }
@@ -368,8 +368,8 @@ pub fn values_guided_in<G: Guide>(
     let values = workspace.take_values(alloc, snapshot.nodes())?;
     let narrow = snapshot.narrowed()?;
     let delta = width_of_keys(narrower(&narrow, snapshot));
-    let ring = workspace.take_keyed(alloc, delta, lists_of_keys(snapshot, delta))?;
+    let ring = workspace.take_ring(alloc, delta, lists_of_keys(snapshot, delta))?;
     let (values, ring) = guided_by(alloc, snapshot, source, target, guide, values, ring)?;
-    workspace.keep_keyed(ring, snapshot.nodes());
+    workspace.keep_ring(ring, snapshot.nodes());
     Ok(values)
 }

@@ -5,7 +5,7 @@ ghost use Rattle.frontier.specs.Entries.{IsFresh};
 ghost use Rattle.deltastep.specs.Search.{most_lists};
 
 use crate::rows::distances::RowError;
-use frontier::{EntryRing, KeyedRing, Remembered};
+use frontier::{EntryRing, Remembered};
 use relax::Tentative;
 use std::alloc::Global;
 
@@ -19,7 +19,6 @@ const FEW_PLACES: usize = 8;
 #[derive(Drop)]
 pub struct Workspace {
     ring: Option<EntryRing>,
-    keyed: Option<KeyedRing>,
     remembered: Option<Remembered>,
     values: Option<Tentative>,
 }
@@ -29,7 +28,6 @@ impl Workspace {
     pub fn new() -> Workspace {
         Workspace {
             ring: None,
-            keyed: None,
             remembered: None,
             values: None,
         }
@@ -53,27 +51,6 @@ impl Workspace {
             }
         }
         let ring = EntryRing::new(alloc, delta, size)?;
-        Ok(ring)
-    }
-
-    /// An empty ring of buckets of keys of this width: the one that was left, if it is such a ring with as many lists, otherwise a new one.
-    pub(crate) fn take_keyed(
-        &mut self,
-        alloc: Global,
-        delta: u32,
-        size: u32,
-    ) -> Result<KeyedRing, RowError>
-        requires width { 1 ≤ delta }
-        requires some { 1 ≤ size }
-        requires few { size ≤ most_lists }
-        ensures fresh { IfOk result (λ ring. IsFresh ring.delta ring.last ring.lists.items delta size) }
-    {
-        if let Some(ring) = self.keyed.take() {
-            if ring.is_fresh(delta, size) {
-                return Ok(ring);
-            }
-        }
-        let ring = KeyedRing::new(alloc, delta, size)?;
         Ok(ring)
     }
 
@@ -117,15 +94,13 @@ impl Workspace {
         self.values = Some(values);
     }
 
-    /// Keeps the ring of a search over so many nodes for the next one, in place of that of a search by keys, unless it has room for more entries than there are nodes, and a
-    /// few a list.
+    /// Keeps the ring of a search over so many nodes for the next one, unless it has room for more entries than there are nodes, and a few a list.
     pub(crate) fn keep_ring(&mut self, ring: EntryRing, nodes: u32)
         ensures remembered { self.new.remembered ≡ self.old.remembered }
     {
         let few = ring.size().saturating_mul(FEW_PLACES);
         if ring.places() <= few.saturating_add(nodes as usize) {
             self.ring = Some(ring);
-            self.keyed = None;
         }
     }
 
@@ -134,17 +109,5 @@ impl Workspace {
         ensures remembered { self.new.remembered ≡ Some remembered }
     {
         self.remembered = Some(remembered);
-    }
-
-    /// Keeps the ring of a search by keys over so many nodes for the next one, in place of that of a search by values, unless it has room for more entries
-    /// than there are nodes, and a few a list.
-    pub(crate) fn keep_keyed(&mut self, ring: KeyedRing, nodes: u32)
-        ensures remembered { self.new.remembered ≡ self.old.remembered }
-    {
-        let few = ring.size().saturating_mul(FEW_PLACES);
-        if ring.places() <= few.saturating_add(nodes as usize) {
-            self.keyed = Some(ring);
-            self.ring = None;
-        }
     }
 }

@@ -2,6 +2,7 @@ use Rattle.std.proofs.Common.{◌≡◌, ◌≤◌, ◌+◌, ◌/◌, ℕ, get_o
 use Rattle.std.proofs.lemmas.List.Elements.{Contains-get_or}
 use Rattle.frontier.specs.Live.{AreEntriesDealt, AreEntriesKept}
 use Rattle.frontier.proofs.Bags.{AreDealt-none, AreDealt-step, AreKept-none, IsNowhere-next}
+use Rattle.frontier.proofs.EntryLists.{AreInPlace-none}
 use Rattle.frontier.proofs.Live.{has_live}
 use Rattle.frontier.proofs.lazy.deal_all.Goals as goal
 
@@ -9,6 +10,7 @@ pub loop-entry-init : goal.loop-entry-init
 loop-entry-init g c =
     let ring = c.args.ring.now in
     record {
+      placed = AreInPlace-none ring.delta ring.last ring.lists.items c.requires.none;
       kept = AreKept-none (g.V.SearchValues.values c.args.tentative.now) ring.delta c.args.bound ring.lists.items c.args.bag.now.items c.requires.none c.requires.empty;
       dealt = AreDealt-none (g.V.SearchValues.values c.args.tentative.now) ring.delta c.args.entries.now ring.lists.items c.args.bag.now.items c.requires.none c.requires.empty;
       width = refl;
@@ -39,9 +41,13 @@ loop-entry-preserved g c =
     let bag = c.deal_one.new.bag in
     let dealt : AreEntriesDealt (g.V.SearchValues.values c.args.tentative.now) l.ring.delta c.args.entries.now (l.entry-index + 1) ring.lists.items bag.items = AreDealt-step (g.V.SearchValues.values c.args.tentative.now) l.ring.delta c.args.entries.now l.entry-index l.ring.lists.items l.bag.items l.invariant.dealt (0, 0) ring.lists.items bag.items (omega arith) c.in_ok-deal_one.ensures.dealt in
     record {
+      placed = ensures.placed l.invariant.placed;
       kept = subst (λ (d : ℕ). AreEntriesKept (g.V.SearchValues.values c.args.tentative.now) d c.args.bound ring.lists.items bag.items) (sym ensures.width) ensures.kept;
       dealt = subst (λ (d : ℕ). AreEntriesDealt (g.V.SearchValues.values c.args.tentative.now) d c.args.entries.now (l.entry-index + 1) ring.lists.items bag.items) (sym ensures.width) dealt;
       width = ensures.width ∙ l.invariant.width;
       last = ensures.last ∙ l.invariant.last;
       size = ensures.size ∙ l.invariant.size;
     }
+
+pub returns-in_err-deal_one-clause-placed : goal.returns-in_err-deal_one-clause-placed
+returns-in_err-deal_one-clause-placed g c = c.deal_one.ensures.placed c.loop-entry.invariant.placed

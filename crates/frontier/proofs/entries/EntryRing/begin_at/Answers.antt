@@ -1,5 +1,5 @@
 use Rattle.std.proofs.Common.{refl}
-use Rattle.frontier.proofs.EntryLists.{AreInPlace-none}
+use Rattle.frontier.proofs.EntryLists.{AreSmall-none}
 use Rattle.frontier.proofs.entries.EntryRing.begin_at.Goals as goal
 
 pub invariant_of-self : goal.invariant_of-self
@@ -8,7 +8,7 @@ invariant_of-self c =
     record {
       positive = s.positive;
       some = s.some;
-      begins = rw c.size.ensures refl;
+      begins = rw c.size.ensures.value refl;
       marked = s.marked;
-      within = AreInPlace-none s.delta c.args.last s.lists.items c.requires.none;
+      small = AreSmall-none c.args.last s.lists.items c.requires.none;
     }

@@ -10,6 +10,7 @@ invariant_of-self g c =
     let more : s.bound ≤ c.max-self.result = omega (arith, c.max-self.ensures) in
     record {
       none = s.none;
+      within = s.within;
       kept = AreKept-slid (g.V.SearchValues.values s.tentative) s.ring.delta s.bound c.max-self.result s.ring.lists.items s.bag.items s.kept bare more;
       room = omega (arith, s.room, c.max-self.ensures, c.reach.ensures);
     }

@@ -6,7 +6,7 @@ use Rattle.frontier.proofs.lazy.LazyRingFrontier.lower.Goals as goal
 
 -- the value was not set
 pub invariant_of-self : goal.invariant_of-self
-invariant_of-self g c = let s = c.args.self.now in record { none = s.none; kept = rw c.in_err-set.ensures.same s.kept; room = s.room }
+invariant_of-self g c = let s = c.args.self.now in record { none = s.none; within = s.within; kept = rw c.in_err-set.ensures.same s.kept; room = s.room }
 
 -- the value was set, and the entry was put, or was not
 pub invariant_of-self-2 : goal.invariant_of-self-2
@@ -25,6 +25,7 @@ invariant_of-self-2 g c =
     }) in
     record {
       none = s.none;
+      within = c.put.ensures.placed s.within;
       kept = rw c.in_ok-set.ensures.set (subst (λ (w : ℕ). AreEntriesKept t w s.bound n.lists.items c.put.new.bag.items) (sym c.put.ensures.width) after);
       room = omega (arith, s.room, c.put.ensures.last, c.put.ensures.size);
     }

@@ -65,3 +65,6 @@ returns-in-None-2-clause-kept g c =
     let first : all_queued n.ring.delta n.ring.lists.items n.bag.items (g.V.SearchValues.values n.tentative) ≡ all_queued s.ring.delta s.ring.lists.items s.bag.items (g.V.SearchValues.values s.tentative) = all_queued-near (g.V.SearchValues.values s.tentative) (g.V.SearchValues.values n.tentative) s.ring.delta n.ring.delta s.ring.lists.items n.ring.lists.items s.bag.items n.bag.items e.width e.tentative (ap (λ (l : Vec (ℕ × ℕ)). l.items) e.bag) same in
     let same' : queued m.ring.delta m.ring.lists.items (g.V.SearchValues.values m.tentative) ≡ queued r.delta r.lists.items (g.V.SearchValues.values n.tentative) = matched_none c.in_ok-bucket-2.field-0 (queued m.ring.delta m.ring.lists.items (g.V.SearchValues.values m.tentative) ≡ queued r.delta r.lists.items (g.V.SearchValues.values n.tentative)) (λ _. Unit {0}) c.in-None-2.is c.in_ok-bucket-2.ensures.same in
     all_queued-near (g.V.SearchValues.values n.tentative) (g.V.SearchValues.values m.tentative) r.delta m.ring.delta r.lists.items m.ring.lists.items bag m.bag.items f.width f.tentative (ap (λ (l : Vec (ℕ × ℕ)). l.items) f.bag) same' ∙ (c.in_ok-deal-in-None.ensures.same ∙ first)
+
+pub invariant_of-self : goal.invariant_of-self
+invariant_of-self g c = record { none = c.deal.ensures.spare; within = c.deal.ensures.placed c.take_near.new.self.within; kept = c.deal.ensures.kept; room = c.deal.ensures.room }

@@ -1,17 +1,21 @@
 use Rattle.std.proofs.Common.{ℕ, ◌*◌, ◌<◌, ◌≤◌, ◌^◌, Contains, List, get_or, inl, inr, sym, subst, ◌∙◌, arith}
 use Rattle.std.proofs.lemmas.List.Elements.{Contains-get_or}
 use Rattle.relax.specs.Values.{value_or}
-use Rattle.frontier.specs.Keyed.{TakesBucket}
+use Rattle.frontier.specs.Keyed.{StandsAt, TakesBucket}
+use Rattle.frontier.proofs.Keying.{TakesBucket-next, nothing_stands}
 use Rattle.deltastep.specs.declared.questions.guided.KeyedSearch.{KeyedSearch}
 use Rattle.deltastep.specs.Search.{top_of}
 use Rattle.deltastep.specs.Guided.{HasDone, IsGuided, IsStart, IsUnderWayTo, stands_in}
-use Rattle.deltastep.proofs.Guiding.{HasDone-kept, IsBest-final, IsDone-taken, IsGuided-taken, nothing_stands, some_entry, starts_at, under_way, value_at_most}
+use Rattle.deltastep.proofs.Guiding.{HasDone-kept, IsBest-final, IsDone-taken, IsGuided-taken, some_entry, starts_at, under_way, value_at_most}
 use Rattle.deltastep.proofs.questions.guided.KeyedSearch.settle_guided.Given.{Over}
 use Rattle.deltastep.proofs.questions.guided.KeyedSearch.settle_guided.Goals as goal
 use Rattle.deltastep.proofs.questions.guided.KeyedSearch.settle_guided.Goals.{In-Some}
 
 takes : (g : Over) (c : In-Some g) → TakesBucket (stands_in c.buckets.self.ring) (stands_in c.take.new.self) c.in-Some.bucket c.take.new.entries.items
-takes g c = c.in-Some.ensures.taken
+takes g c =
+    let s = c.buckets.self.ring in
+    let n = c.take.new.self in
+    subst (λ l. TakesBucket (stands_in s) (StandsAt l n.lists.items) c.in-Some.bucket c.take.new.entries.items) (sym c.in-Some.ensures.last) (TakesBucket-next s.last c.in-Some.bucket s.lists.items n.lists.items c.take.new.entries.items c.take.ensures.size c.in-Some.ensures.taken)
 
 guided : (g : Over) (c : In-Some g) → IsUnderWayTo c.args.snapshot.now c.requires.state.0 (g.G.Guide.target c.args.guide.now) c.buckets.self
 guided g c = c.buckets.invariant.state c.requires.state.0 c.requires.state.1
@@ -29,7 +33,7 @@ mid_guided g c source h =
 
 small : (g : Over) (c : In-Some g) → c.in-Some.bucket * c.from-delta.result < 2 ^ 64
 small g c =
-    let e = some_entry c.take.new.entries.items c.in-Some.ensures.unused in
+    let e = some_entry c.take.new.entries.items c.in-Some.ensures.taken.some_entry in
     subst (λ w. c.in-Some.bucket * w < 2 ^ 64) (sym c.buckets.invariant.width) ((guided g c).small c.in-Some.bucket e.0 (((takes g c).all e.0).0 e.1))
 
 pub overflow_mul-start : goal.overflow_mul-start

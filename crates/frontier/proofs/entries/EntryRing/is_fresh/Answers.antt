@@ -1,6 +1,6 @@
 use Rattle.std.proofs.Common.{arith}
-use Rattle.frontier.proofs.Keying.{none_marked}
-use Rattle.frontier.proofs.keyed.KeyedRing.is_fresh.Goals as goal
+use Rattle.frontier.proofs.EntryLists.{none_marked}
+use Rattle.frontier.proofs.entries.EntryRing.is_fresh.Goals as goal
 
 pub returns-in_default : goal.returns-in_default
 returns-in_default c =
@@ -9,5 +9,5 @@ returns-in_default c =
       wide = omega arith;
       first = omega arith;
       enough = omega (arith, c.size.ensures.value);
-      none = none_marked s.lists.items s.marks s.marked c.in_default.ensures;
+      none = λ p. none_marked s.lists.items s.marks s.marked p (c.in_default.ensures p (omega arith));
     }

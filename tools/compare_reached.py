@@ -34,6 +34,8 @@ KEPT = {
     ("snapshot", "Snapshot", "light"): OF_ARCS,
     ("snapshot", "Snapshot", "heavy"): OF_ARCS,
     ("deltastep", None, "plain_row"): SLOW,
+    ("buckets", "RingBuckets", "new"): OF_QUEUES,
+    ("buckets", "RingBuckets", "restart"): OF_QUEUES,
     ("deltastep", None, "suits"): OF_QUEUES,
     ("rows", None, "answer_plain"): SLOW,
     ("disk", "FailOnce", "new"): DISK,

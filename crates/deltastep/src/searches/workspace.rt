@@ -13,9 +13,8 @@ use std::alloc::Global;
 const FEW_PLACES: usize = 8;
 
 /// The memory that a search needs beside its row, left for the next search, of the same snapshot or another. What does not suit that search is made anew,
-/// such as a ring after a search that was led to its target, which leaves one by keys in its place. It takes no memory before a search has left some. After
-/// that it takes at most 17 bytes a node, and 24 to 152 a list. After a search for one distance it takes 8 bytes a node more, and 4 for each node that any of
-/// them reached.
+/// such as a ring after a search that was led to its target, whose buckets are narrower. It takes no memory before a search has left some. After that it takes
+/// at most 17 bytes a node, and 24 to 152 a list. After a search for one distance it takes 8 bytes a node more, and 4 for each node that any of them reached.
 #[derive(Drop)]
 pub struct Workspace {
     ring: Option<EntryRing>,

@@ -370,6 +370,6 @@ pub fn values_guided_in<G: Guide>(
     let delta = width_of_keys(narrower(&narrow, snapshot));
     let ring = workspace.take_ring(alloc, delta, lists_of_keys(snapshot, delta))?;
     let (values, ring) = guided_by(alloc, snapshot, source, target, guide, values, ring)?;
-    workspace.keep_ring(ring, snapshot.nodes());
+    workspace.keep_ring_of_keys(ring);
     Ok(values)
 }

@@ -14,7 +14,8 @@ const FEW_PLACES: usize = 8;
 
 /// The memory that a search needs beside its row, left for the next search, of the same snapshot or another. What does not suit that search is made anew,
 /// such as a ring after a search that was led to its target, whose buckets are narrower. It takes no memory before a search has left some. After that it takes
-/// at most 17 bytes a node, and 24 to 152 a list. After a search for one distance it takes 8 bytes a node more, and 4 for each node that any of them reached.
+/// at most 17 bytes a node, and 24 to 152 a list; after a led search 24 a list, and 16 for each entry that it had at once, or twice that. After a search for one
+/// distance it takes 8 bytes a node more, and 4 for each node that any of them reached.
 #[derive(Drop)]
 pub struct Workspace {
     ring: Option<EntryRing>,
@@ -101,6 +102,14 @@ impl Workspace {
         if ring.places() <= few.saturating_add(nodes as usize) {
             self.ring = Some(ring);
         }
+    }
+
+    /// Keeps the ring of a led search for the next one, whatever it has room for: such a ring has many lists, and to look at each would take longer than a
+    /// search for a node nearby.
+    pub(crate) fn keep_ring_of_keys(&mut self, ring: EntryRing)
+        ensures remembered { self.new.remembered ≡ self.old.remembered }
+    {
+        self.ring = Some(ring);
     }
 
     /// Keeps the memory of nodes of a search, for the next one.

@@ -107,6 +107,7 @@ impl Workspace {
     /// Keeps the ring of a led search for the next one, whatever it has room for: such a ring has many lists, and to look at each would take longer than a
     /// search for a node nearby.
     pub(crate) fn keep_ring_of_keys(&mut self, ring: EntryRing)
+        ensures ring { self.new.ring ≡ Some ring }
         ensures remembered { self.new.remembered ≡ self.old.remembered }
     {
         self.ring = Some(ring);

@@ -38,6 +38,9 @@ def load_kit():
     kit.rtlib.guarded()
     kit.Crate.allowed = kit.handles_of(str(TOP))
     kit.rtlib.Crate = kit.Crate
+    made, stamp = {}, kit.Crate.stamp
+    # it goes through all below by each way anew, which takes minutes high up
+    kit.Crate.stamp = lambda it: made.get(it.folder) or made.setdefault(it.folder, stamp(it))
     return kit, sorted(kit.rtlib.crates_below(str(TOP)), key=lambda it: len(it.below()))
 
 def texts(folder, parts):

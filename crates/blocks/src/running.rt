@@ -12,10 +12,10 @@ use std::{env, fs, io};
 /// A call that blocks may name, with its options: behind one that ends with `=` stands its value, and `*` stands for each argument before them.
 pub type Call = (&'static str, &'static str);
 
-/// The calls that the blocks of a program may name, and what makes one: it adds what comes out of a case.
+/// The calls that the blocks of a program may name, in one table or several, and what makes one: it adds what comes out of a case.
 #[derive(Drop)]
 pub struct Calls<F> {
-    pub table: &'static [Call],
+    pub tables: &'static [&'static [Call]],
     pub make: F,
 }
 
@@ -163,9 +163,19 @@ fn options_of(calls: &[Call], name: &str) -> Option<&'static str> {
     None
 }
 
+/// The same of the calls of several tables.
+fn options_in(tables: &[&[Call]], name: &str) -> Option<&'static str> {
+    for calls in tables {
+        if let Some(options) = options_of(calls, name) {
+            return Some(options);
+        }
+    }
+    None
+}
+
 /// Tells that there is no such call, or no such option. Answers whether there is.
-fn is_known(calls: &[Call], head: Head<'_>, out: &mut Vec<u8>) -> io::Result<bool> {
-    let Some(options) = options_of(calls, head.word(0)) else {
+fn is_known(tables: &[&[Call]], head: Head<'_>, out: &mut Vec<u8>) -> io::Result<bool> {
+    let Some(options) = options_in(tables, head.word(0)) else {
         writeln!(out, "no call: {}", head.word(0))?;
         return Ok(false);
     };
@@ -187,7 +197,7 @@ fn came_of<F: Fn(Global, Given<'_, '_>, &mut Vec<u8>) -> io::Result<()>>(
 {
     let head = Head::new(case.head.as_str());
     let mut out = Vec::new(alloc);
-    if !is_known(calls.table, head, &mut out)? {
+    if !is_known(calls.tables, head, &mut out)? {
         return Ok(out);
     }
     if head.has("each") {

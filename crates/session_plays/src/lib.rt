@@ -1,6 +1,4 @@
-//! Plays the cases of the files that its words name, or of standard input where there are none: sessions with one client of a desk over a store in memory, and with many at
-//! doors. Tells on standard error each case that comes out otherwise than its file says, and how many there were. The status is 0 where all came out as they are to, and
-//! there was one at least.
+//! Plays of sessions: with one client of a desk over a store in memory, and with many at doors, as cases have them.
 //!
 //! The texts of a case are what its clients send; before them may stand the text of a network, which is else that of the worked rows.
 //!
@@ -31,22 +29,21 @@ mod answering;
 mod doors;
 mod own_texts;
 
-use blocks::{Call, Calls, Given, run_files};
+use blocks::{Call, Given};
 use stages::CaseRuntime;
 use std::alloc::Global;
 use std::io;
 use std::io::Write;
-use std::process::ExitCode;
 
 /// The options of both calls: behind one that ends with `=` stands its value.
 const OPTIONS: &str =
     "network landmarks= room= pages= version= delta= workers= patience= slow-flush= flush-misses= task-misses= step-misses= stop= halted crowded alone copies left clients= count= asking= told";
 
-/// The calls of the cases.
-const CALLS: &[Call] = &[("session", OPTIONS), ("doors", OPTIONS)];
+/// The calls of these plays.
+pub const CALLS: &[Call] = &[("session", OPTIONS), ("doors", OPTIONS)];
 
 /// Makes the call of a case, and adds what comes out.
-fn play<R: CaseRuntime>(
+pub fn play<R: CaseRuntime>(
     rt: R,
     alloc: Global,
     given: Given<'_, '_>,
@@ -60,14 +57,4 @@ fn play<R: CaseRuntime>(
         Ok(()) => Ok(()),
         Err(refusal) => writeln!(out, "{refusal}"),
     }
-}
-
-fn main(rt: HostRuntime) -> io::Result<ExitCode> {
-    let calls = Calls {
-        table: CALLS,
-        make: |alloc: Global, given: Given<'_, '_>, out: &mut Vec<u8>| -> io::Result<()> {
-            play(rt, alloc, given, out)
-        },
-    };
-    run_files(&rt, &calls)
 }

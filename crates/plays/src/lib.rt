@@ -1,5 +1,4 @@
-//! Plays the cases of the files that its words name, or of standard input where there are none: calls of a desk over a store in memory. Tells on standard error each case
-//! that comes out otherwise than its file says, and how many there were. The status is 0 where all came out as they are to, and there was one at least.
+//! Plays of desks: calls of a desk over a store in memory, as cases have them.
 //!
 //! The last text of a case is what its desk is called; before it may stand the text of a network, which is else that of the worked rows.
 //!
@@ -29,22 +28,21 @@ mod desks;
 mod moves;
 mod outlived;
 
-use blocks::{Call, Calls, Given, run_files};
+use blocks::{Call, Given};
 use stages::CaseRuntime;
 use std::alloc::Global;
 use std::io;
 use std::io::Write;
-use std::process::ExitCode;
 
 /// The options of both calls: behind one that ends with `=` stands its value.
 const OPTIONS: &str =
     "network landmarks= room= pages= version= delta= workers= patience= held= flush-misses= task-misses= step-misses= short-for= stop= rounds= brief confirmed";
 
-/// The calls of the cases.
-const CALLS: &[Call] = &[("desk", OPTIONS), ("outlived", OPTIONS)];
+/// The calls of these plays.
+pub const CALLS: &[Call] = &[("desk", OPTIONS), ("outlived", OPTIONS)];
 
 /// Makes the call of a case, and adds what comes out.
-fn play<R: CaseRuntime>(
+pub fn play<R: CaseRuntime>(
     rt: R,
     alloc: Global,
     given: Given<'_, '_>,
@@ -58,14 +56,4 @@ fn play<R: CaseRuntime>(
         Ok(()) => Ok(()),
         Err(refusal) => writeln!(out, "{refusal}"),
     }
-}
-
-fn main(rt: HostRuntime) -> io::Result<ExitCode> {
-    let calls = Calls {
-        table: CALLS,
-        make: |alloc: Global, given: Given<'_, '_>, out: &mut Vec<u8>| -> io::Result<()> {
-            play(rt, alloc, given, out)
-        },
-    };
-    run_files(&rt, &calls)
 }

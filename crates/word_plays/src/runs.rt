@@ -1,8 +1,9 @@
 //! Runs of the program.
-use program::{ServerRuntime, run_program};
 use shells::{Shell, Told};
 use std::alloc::{AllocError, Global};
+use std::fs::File;
 use std::io;
+use std::rt::Files;
 
 /// The write of this number fails; with `..` behind it each later one, too.
 fn fail_writes<R>(shell: &mut Shell<'_, R>, number: &str) {
@@ -95,15 +96,15 @@ fn told_by(alloc: Global, settings: &str, told: &Told, status: u8) -> Result<Str
 }
 
 /// Runs the program with these settings on these words and this input, in this folder. Answers what it told.
-pub(crate) fn run<'a, R: ServerRuntime>(
+pub(crate) fn run<'a, R: AllocGlobal + Files<File = File>, F: Fn(&Shell<'_, R>) -> u8>(
     rt: &'a R,
     folder: &str,
     settings: &'a str,
     words: &'a str,
     input: &'a str,
+    runs: &F,
 ) -> io::Result<String>
-where
-    R::Dir: Send + 'static,
+    requires { F.IsAlwaysCallable runs.now }
 {
     let mut shell = Shell::new(rt, folder, words)?;
     shell.input = input.as_bytes();
@@ -112,6 +113,6 @@ where
             return Ok(format!(in rt.alloc(); "no setting: {setting}\n")?);
         }
     }
-    let status = run_program(&shell, *rt);
+    let status = runs(&shell);
     Ok(told_by(rt.alloc(), settings, &shell.told(), status)?)
 }

@@ -2,19 +2,21 @@
 use crate::files::{Held, told_of_files};
 use crate::runs::run;
 use crate::steps::{Step, steps_of};
-use program::ServerRuntime;
-use std::io::Write;
+use shells::Shell;
+use std::fs::File;
+use std::io::{ErrorKind, Write};
+use std::rt::Files;
 use std::{fs, io};
 
 /// Does the words of a step. Answers what they tell.
-fn told_of<R: ServerRuntime>(
+fn told_of<R: AllocGlobal + Files<File = File>, F: Fn(&Shell<'_, R>) -> u8>(
     rt: &R,
     folder: &str,
     step: &Step,
     held: &mut Held,
+    runs: &F,
 ) -> io::Result<String>
-where
-    R::Dir: Send + 'static,
+    requires { F.IsAlwaysCallable runs.now }
 {
     let words = step.words.as_str().replace(rt.alloc(), "~", folder)?;
     let words = held.named(rt.alloc(), words.as_str())?;
@@ -22,23 +24,23 @@ where
     let input = step.input.as_str();
     let is_run = words.split_whitespace().any(|it| it == "roadmark");
     match words.split_once("roadmark") {
-        Some((settings, words)) if is_run => run(rt, folder, settings, words, input),
+        Some((settings, words)) if is_run => run(rt, folder, settings, words, input, runs),
         _ => told_of_files(rt, folder, words, input, held),
     }
 }
 
 /// Plays a step, and adds what it tells where that is something else than it is to.
-fn play_step<R: ServerRuntime>(
+fn play_step<R: AllocGlobal + Files<File = File>, F: Fn(&Shell<'_, R>) -> u8>(
     rt: &R,
     folder: &str,
     step: &Step,
     held: &mut Held,
+    runs: &F,
     out: &mut Vec<u8>,
 ) -> io::Result<()>
-where
-    R::Dir: Send + 'static,
+    requires { F.IsAlwaysCallable runs.now }
 {
-    let told = match told_of(rt, folder, step, held) {
+    let told = match told_of(rt, folder, step, held, runs) {
         Ok(told) => told.as_str().replace(rt.alloc(), folder, "~")?,
         Err(error) => format!(in rt.alloc(); "{error}\n")?,
     };
@@ -51,34 +53,37 @@ where
 }
 
 /// Plays the steps one after the other.
-fn play_steps<R: ServerRuntime>(
+fn play_steps<R: AllocGlobal + Files<File = File>, F: Fn(&Shell<'_, R>) -> u8>(
     rt: &R,
     folder: &str,
     steps: &[Step],
+    runs: &F,
     out: &mut Vec<u8>,
 ) -> io::Result<()>
-where
-    R::Dir: Send + 'static,
+    requires { F.IsAlwaysCallable runs.now }
 {
     let mut held = Held::new();
     for step in steps {
-        play_step(rt, folder, step, &mut held, out)?;
+        play_step(rt, folder, step, &mut held, runs, out)?;
     }
     Ok(())
 }
 
-/// Plays a transcript in this folder, which is there only meanwhile. Adds the steps that tell something else than they are to.
-pub(crate) fn play<R: ServerRuntime>(
+/// Plays a transcript in this folder, which is there only meanwhile, by what runs the program in a shell. Adds the steps that tell something else than they are to.
+pub fn play<R: AllocGlobal + Files<File = File>, F: Fn(&Shell<'_, R>) -> u8>(
     rt: &R,
     folder: &str,
-    text: &str,
+    text: &[u8],
+    runs: &F,
     out: &mut Vec<u8>,
 ) -> io::Result<()>
-where
-    R::Dir: Send + 'static,
+    requires { F.IsAlwaysCallable runs.now }
 {
+    let Ok(text) = str::from_utf8(text) else {
+        return Err(io::Error::from(ErrorKind::InvalidData));
+    };
     let steps = steps_of(rt.alloc(), text)?;
     fs::create_dir(rt, folder)?;
-    play_steps(rt, folder, steps.as_slice(), out)?;
+    play_steps(rt, folder, steps.as_slice(), runs, out)?;
     fs::remove_dir_all(rt, folder)
 }

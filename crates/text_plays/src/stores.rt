@@ -19,8 +19,8 @@ const MAKING: &str = "journal= room= here keeping sent";
 
 const ASKING: &str = "routes delta= disk-takes= keeping sent";
 
-/// The calls of the cases.
-pub(crate) const CALLS: &[Call] = &[
+/// The calls of these plays.
+pub const CALLS: &[Call] = &[
     ("gr", ""),
     ("ss", ""),
     ("p2p", ""),
@@ -56,7 +56,7 @@ pub(crate) const CALLS: &[Call] = &[
 
 /// The disk that the blocks so far have left.
 #[derive(Drop)]
-pub(crate) struct Made<R> {
+pub struct Made<R> {
     rt: R,
     disk: RefCell<Option<MemDisk>>,
 }
@@ -135,7 +135,7 @@ fn call_on<T: Threads>(
 
 impl<R: Threads + Copy> Made<R> {
     /// No store is there yet.
-    pub(crate) fn new(rt: R) -> Made<R> {
+    pub fn new(rt: R) -> Made<R> {
         Made {
             rt,
             disk: RefCell::new(None),
@@ -193,12 +193,7 @@ impl<R: Threads + Copy> Made<R> {
     }
 
     /// Makes the call of a case, and adds what comes out.
-    pub(crate) fn call(
-        &self,
-        alloc: Global,
-        given: Given<'_, '_>,
-        out: &mut Vec<u8>,
-    ) -> io::Result<()> {
+    pub fn call(&self, alloc: Global, given: Given<'_, '_>, out: &mut Vec<u8>) -> io::Result<()> {
         match given.head.word(0) {
             "gr" | "ss" | "p2p" | "commands" | "script" => put_text(alloc, given, out),
             "gr-before-run" => put_before_run(alloc, given, out),

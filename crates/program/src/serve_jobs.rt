@@ -96,9 +96,7 @@ const LAST_ANSWERS: u64 = 1000;
 #[inline(never)]
 fn start_door<
     S: ServedApart,
-    A: BufRead + Send + 'static,
-    B: Write + Send + 'static,
-    P: Door<A, B> + Drop + Send + 'static,
+    P: Door + Drop + Send + 'static,
     C: Copies + Drop + Send + Sync + 'static,
 >(
     threads: S::Runtime,
@@ -121,9 +119,7 @@ fn start_door<
 /// Starts a thread for each door. It fails with 11 for lack of memory, and with 63 if the system gives no thread.
 fn start_each<
     S: ServedApart,
-    A: BufRead + Send + 'static,
-    B: Write + Send + 'static,
-    P: Door<A, B> + Drop + Send + 'static,
+    P: Door + Drop + Send + 'static,
     C: Copies + Drop + Send + Sync + 'static,
 >(
     threads: S::Runtime,
@@ -146,9 +142,7 @@ fn start_each<
 #[inline(never)]
 fn start_doors<
     S: ServedApart,
-    A: BufRead + Send + 'static,
-    B: Write + Send + 'static,
-    P: Door<A, B> + Drop + Send + 'static,
+    P: Door + Drop + Send + 'static,
     C: Copies + Drop + Send + Sync + 'static,
 >(
     threads: S::Runtime,
@@ -215,9 +209,7 @@ fn serve_store<
     D: Disk + Drop + Send + 'static,
     G: Gate + Drop + Send + Sync + 'static,
     T: ServerRuntime,
-    A: BufRead + Send + 'static,
-    B: Write + Send + 'static,
-    P: Door<A, B> + Drop + Send + 'static,
+    P: Door + Drop + Send + 'static,
     C: Copies + Drop + Send + Sync + 'static,
     I: BufRead,
     W: Write,
@@ -284,9 +276,7 @@ pub fn serve_disk<
     D: Disk + Drop + Send + 'static,
     G: Gate + Drop + Send + Sync + 'static,
     T: ServerRuntime,
-    A: BufRead + Send + 'static,
-    B: Write + Send + 'static,
-    P: Door<A, B> + Drop + Send + 'static,
+    P: Door + Drop + Send + 'static,
     I: BufRead,
     W: Write,
 >(
@@ -327,7 +317,7 @@ where
     };
     let history = History::new(store.network(), store.version());
     let copies = FileCopies::new(threads, folder, store.journal_pages());
-    serve_store::<Brand, _, _, _, _, _, _, _, _, _>(
+    serve_store::<Brand, _, _, _, _, _, _, _>(
         threads, alloc, history, store, gate, setup, lock, doors, copies, reader, writer,
     )
 }
@@ -375,9 +365,7 @@ fn serve_opened<
     R: AllocGlobal + Clock + Input + Print,
     T: ServerRuntime,
     D: Disk + Drop + Send + 'static,
-    A: BufRead + Send + 'static,
-    B: Write + Send + 'static,
-    P: Door<A, B> + Drop + Send + 'static,
+    P: Door + Drop + Send + 'static,
 >(rt: &R, threads: T, opened: Opened<D, P>) -> Result<Done, Failed>
 where
     T::Dir: Send + 'static,

@@ -1,5 +1,5 @@
 #!/usr/bin/env bash
-# Runs the tests of all crates before any proof: the programs `cases` and `transcripts` by `rt try`, and the test functions of each crate of tests by `rt try --test`, two crates side by side.
+# Runs the tests of all crates before any proof: the program `cases` by `rt try`, and the test functions of each crate of tests by `rt try --test`, two crates side by side.
 #
 #     tools/look_at_tests.sh [CRATE]..
 #
@@ -35,7 +35,7 @@ look() {
 }
 
 if [ $# = 0 ]; then
-  set -- $(sed -nE 's/^(cases|transcripts|[a-z_]+_tests)\b.*:.*/\1/p' "$top/crates.txt")
+  set -- $(sed -nE 's/^(cases|[a-z_]+_tests)\b.*:.*/\1/p' "$top/crates.txt")
 fi
 for crate in "$@"; do
   if [ ! -d "$top/crates/$crate" ]; then

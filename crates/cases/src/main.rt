@@ -44,7 +44,7 @@ where
     /// Plays a case, and adds what comes out.
     fn play(&self, alloc: Global, given: Given<'_, '_>, out: &mut Vec<u8>) -> io::Result<()> {
         match given.head.word(0) {
-            "desk" | "outlived" => plays::play(self.rt, alloc, given, out),
+            "desk" => plays::play(self.rt, alloc, given, out),
             "session" | "doors" => session_plays::play(self.rt, alloc, given, out),
             "play" => self.transcript(given.text(0), out),
             "standing" | "gave-up" => servers::tell(&self.rt, given, out),

@@ -1,13 +1,13 @@
 // A desk is started, called line by line, and closed. What is answered is told, and what the gate noted and the desk left.
-ghost use Rattle.std.specs.Prelude.{◌≡◌, ◌≤◌, true};
+ghost use Rattle.std.specs.Prelude.{◌≡◌, ◌≤◌, true, IfOk, IfSome};
 ghost use Rattle.std.specs.Option.{ForSome};
 ghost use Rattle.rows.specs.Kept.{IsWidth};
 ghost use Rattle.store.specs.State.{CameTidy, is_calm};
 ghost use Rattle.desk.specs.Openings.{IsNewDesk};
 
-use crate::moves::{caller_of, play_moves};
-use blocks::Given;
-use desk::{Closed, Desk, History, Naming, Setup};
+use crate::moves::{caller_of, play_lines};
+use blocks::{Given, Head};
+use desk::{Closed, Desk, History, Naming, Served, Setup};
 use disk::Disk;
 use roadnet::Refusal;
 use stages::{Board, CaseRuntime, Kept, OfCase, Watch, gate_of, left_by, setup_of, store_of};
@@ -17,7 +17,28 @@ use std::marker::Brand;
 use std::sync::Wait;
 use store::Store;
 
-/// A desk is started, called and closed. The answers are added.
+/// The lines that are played before the desk is closed, and behind that: the last text, or the last two under `outlived`.
+fn lines_of<'t>(given: Given<'_, 't>) -> (&'t [u8], &'t [u8]) {
+    let last = given.texts.len().saturating_sub(1);
+    if given.head.has("outlived") {
+        (given.text(last.saturating_sub(1)), given.text(last))
+    } else {
+        (given.text(last), &[])
+    }
+}
+
+/// Closes a desk, or lets it go, as the head says: then it leaves nothing.
+fn end<S: Served>(desk: Desk<S>, head: Head<'_>) -> Result<Option<Closed<S::Disk>>, Refusal>
+    ensures origin { IfOk result (λ left. IfSome left (λ closed. closed.whole.origin ≡ S.Naming.origin)) }
+{
+    if head.has("let-go") {
+        drop(desk);
+        return Ok(None);
+    }
+    Ok(Some(desk.close()?))
+}
+
+/// A desk is started, called, ended, and called by a handle that outlives it. The answers are added.
 fn call_desk<N: Naming + Send + Sync + 'static, R: CaseRuntime>(
     rt: R,
     alloc: Global,
@@ -28,7 +49,7 @@ fn call_desk<N: Naming + Send + Sync + 'static, R: CaseRuntime>(
     board: &Board,
     given: Given<'_, '_>,
     out: &mut Vec<u8>,
-) -> Result<Closed<Kept>, Refusal>
+) -> Result<Option<Closed<Kept>>, Refusal>
     requires calm { is_calm store ≡ true }
     requires width { ForSome setup.delta IsWidth }
     requires workers { (1 ≤ setup.workers) × (setup.workers ≤ 64) }
@@ -36,15 +57,20 @@ fn call_desk<N: Naming + Send + Sync + 'static, R: CaseRuntime>(
     requires came_tidy { N.came_tidy → CameTidy ⟦<Kept as Disk>⟧.honest ⟦<Kept as Disk>⟧.content store.given }
 {
     let desk: Desk<OfCase<N, R>> = Desk::start(rt, alloc, history, store, gate, setup)?;
+    let handle = desk.handle().again()?;
     let mut caller = caller_of::<N>(alloc);
-    let told = play_moves(&rt, alloc, &desk, board, given, &mut caller, out);
-    let closed = desk.close()?;
+    let (before, behind) = lines_of(given);
+    let told = play_lines(&rt, alloc, &handle, board, before, &mut caller, out);
+    let left = end(desk, given.head)?;
     told?;
-    if given.head.has("confirmed") {
-        let confirmed = caller.confirmed(&closed);
+    play_lines(&rt, alloc, &handle, board, behind, &mut caller, out)?;
+    if let Some(closed) = &left
+        && given.head.has("confirmed")
+    {
+        let confirmed = caller.confirmed(closed);
         writeln!(out, "confirmed {confirmed}").or(Err(Refusal::OutOfMemory))?;
     }
-    Ok(closed)
+    Ok(left)
 }
 
 /// Adds a list of numbers with its name.
@@ -85,7 +111,12 @@ fn play_once<R: CaseRuntime>(
     let history = History::new(store.network(), store.version());
     let (gate, board) = gate_of(rt, alloc, given.head)?;
     let setup = setup_of(given.head);
-    let closed = call_desk::<Brand, _>(rt, alloc, history, store, gate, setup, &board, given, out)?;
+    let Some(closed) = call_desk::<Brand, _>(
+        rt, alloc, history, store, gate, setup, &board, given, out,
+    )?
+    else {
+        return Ok(());
+    };
     if !given.head.has("brief") {
         put_noted(&rt, alloc, &board, out)?;
     }

@@ -1,13 +1,7 @@
 //! Plays of desks: calls of a desk over a store in memory, as cases have them.
 //!
-//! The last text of a case is what its desk is called; before it may stand the text of a network, which is else that of the worked rows.
-//!
-//! | Call | Plays |
-//! |---|---|
-//! | `desk` | a desk is started, called line by line, and closed |
-//! | `outlived` | a desk is closed, or let go, while others have a handle, a ticket, a place and a reader |
-//!
-//! Each has these options, beside those of all cases:
+//! The call `desk` starts a desk, calls it line by line, and closes it. The last text of a case has the lines; before it may stand the text of a network,
+//! which is else that of the worked rows. It has these options, beside those of all cases:
 //!
 //! | Option | Means |
 //! |---|---|
@@ -19,14 +13,14 @@
 //! | `held POST,POST` | the gate holds these calls until they are let go: `flush`, `task`, `step`, `row` |
 //! | `flush-misses N`, `task-misses N`, `step-misses N` | so many of these calls find no memory |
 //! | `short-for N` | no flush and no task finds memory within so many milliseconds |
-//! | `brief`, `confirmed` | of a `desk` it is not told what the gate noted, or it is told how many receipts it confirms when it is closed |
+//! | `brief`, `confirmed` | it is not told what the gate noted, or it is told how many receipts the closed desk confirms |
+//! | `outlived`, `let-go` | the last two texts have lines: those of the second are played behind the desk's end, by what others have of it; it is not closed, but let go, and nothing more is told |
 //! | `stop PICK` | the disk that is left is stopped with this pick before it is opened |
 //! | `rounds N` | it is played again while a call was late, so often at most |
 #![tactic(auto)]
 
 mod desks;
 mod moves;
-mod outlived;
 
 use blocks::{Call, Given};
 use stages::CaseRuntime;
@@ -34,12 +28,12 @@ use std::alloc::Global;
 use std::io;
 use std::io::Write;
 
-/// The options of both calls: behind one that ends with `=` stands its value.
+/// The options of the call: behind one that ends with `=` stands its value.
 const OPTIONS: &str =
-    "network landmarks= room= pages= version= delta= workers= patience= held= flush-misses= task-misses= step-misses= short-for= stop= rounds= brief confirmed";
+    "network landmarks= room= pages= version= delta= workers= patience= held= flush-misses= task-misses= step-misses= short-for= stop= rounds= brief confirmed outlived let-go";
 
 /// The calls of these plays.
-pub const CALLS: &[Call] = &[("desk", OPTIONS), ("outlived", OPTIONS)];
+pub const CALLS: &[Call] = &[("desk", OPTIONS)];
 
 /// Makes the call of a case, and adds what comes out.
 pub fn play<R: CaseRuntime>(
@@ -48,11 +42,7 @@ pub fn play<R: CaseRuntime>(
     given: Given<'_, '_>,
     out: &mut Vec<u8>,
 ) -> io::Result<()> {
-    let told = match given.head.word(0) {
-        "desk" => desks::play(rt, alloc, given, out),
-        _ => outlived::play(rt, alloc, given, out),
-    };
-    match told {
+    match desks::play(rt, alloc, given, out) {
         Ok(()) => Ok(()),
         Err(refusal) => writeln!(out, "{refusal}"),
     }

@@ -2,7 +2,7 @@
 ghost use Rattle.std.specs.Prelude.{◌≡◌};
 
 use blocks::Given;
-use desk::{Closed, Desk, Handle, Naming, Reader, Receipt, Refused, Served, ServedApart, Ticket};
+use desk::{Closed, Handle, Naming, Reader, Receipt, Refused, Served, Ticket, Working};
 use dimacs::read_command;
 use disk::Disk;
 use roadnet::{Command, Group, Refusal};
@@ -87,13 +87,14 @@ impl<N: Naming> Caller<N> {
         }
     }
 
-    /// Submits a group, and keeps its ticket.
+    /// Submits the group of a line, and keeps its ticket.
     fn submit<S: Served<Naming = N>>(
         &mut self,
+        alloc: Global,
         desk: &Handle<S>,
-        group: Group,
+        line: &str,
     ) -> Result<u64, Refusal> {
-        self.keep(desk.submit_group(group)?)
+        self.keep(desk.submit_group(group_of(alloc, line)?)?)
     }
 
     /// Submits so many commands. Told is the last number.
@@ -104,21 +105,7 @@ impl<N: Naming> Caller<N> {
     ) -> Result<u64, Refusal> {
         let mut last = 0;
         for _ in 0..count {
-            last = self.submit(desk, Group::one(SHORTER))?;
-        }
-        Ok(last)
-    }
-
-    /// Submits so many commands, and settles each before the next. Told is the last number.
-    fn settle_each<S: Served<Naming = N>>(
-        &mut self,
-        desk: &Handle<S>,
-        count: u64,
-    ) -> Result<u64, Refusal> {
-        let mut last = 0;
-        for _ in 0..count {
-            self.submit(desk, Group::one(SHORTER))?;
-            last = self.settle(desk, true)?;
+            last = self.keep(desk.submit(SHORTER)?)?;
         }
         Ok(last)
     }
@@ -206,7 +193,7 @@ impl<N: Naming> Caller<N> {
     }
 
     /// Looks by its own reader until this version is shown, and once more.
-    fn watch<S: Served<Naming = N>>(
+    fn look<S: Served<Naming = N>>(
         &mut self,
         rt: &S::Runtime,
         alloc: Global,
@@ -258,9 +245,9 @@ fn look<N: Naming, R: Threads>(
     written.or(Err(Refusal::OutOfMemory))
 }
 
-/// Offers a command, and settles the basis of its refusal. Told is for what it is refused, or why the basis isn't settled; or its number.
-fn decline<S: Served>(desk: &Handle<S>, command: Command) -> Result<u64, Refusal> {
-    let Refused { refusal, basis } = match desk.offer(Group::one(command)) {
+/// Offers the group of a line, and settles the basis of its refusal. Told is for what it is refused, or why the basis isn't settled; or its number.
+fn decline<S: Served>(alloc: Global, desk: &Handle<S>, line: &str) -> Result<u64, Refusal> {
+    let Refused { refusal, basis } = match desk.offer(group_of(alloc, line)?) {
         Ok(ticket) => return Ok(ticket.ticket().number),
         Err(refused) => refused,
     };
@@ -270,25 +257,29 @@ fn decline<S: Served>(desk: &Handle<S>, command: Command) -> Result<u64, Refusal
     Err(refusal)
 }
 
+/// Waits for a version, as long as the desk's patience lasts. Told is how many groups are shown then.
+fn until<S: Served>(desk: &Handle<S>, version: u64) -> Result<u64, Refusal> {
+    match desk.wait_version(version) {
+        Ok(shown) => Ok(shown.groups().len()),
+        Err(refusal) => Err(refusal),
+    }
+}
+
+/// Waits until the flusher of a halted desk has ended.
+fn await_written<S: Served>(rt: &S::Runtime, desk: &Handle<S>) -> Result<(), Refusal> {
+    for _ in 0..MOST_TURNS {
+        if desk.state()?.flusher != Working::On {
+            break;
+        }
+        thread::sleep(rt, Duration::from_millis(1));
+    }
+    Ok(())
+}
+
 /// The width of the buckets of the view at which a new reader looks.
 fn width<S: Served>(desk: &Handle<S>) -> Result<u64, Refusal> {
     let mut reader = desk.reader()?;
     Ok(u64::from(reader.pinned().width()))
-}
-
-/// As many readers as there are places. Told is for what one more is refused; behind that one goes, and another comes.
-fn all_readers<S: Served>(alloc: Global, desk: &Handle<S>) -> Result<u64, Refusal> {
-    let mut readers = Vec::new(alloc);
-    for _ in 0..64u32 {
-        readers.push(desk.reader()?).or(Err(Refusal::OutOfMemory))?;
-    }
-    let refused = match desk.reader() {
-        Ok(_) => Ok(65),
-        Err(refusal) => Err(refusal),
-    };
-    drop(readers.pop());
-    desk.reader()?;
-    refused
 }
 
 /// Adds a call's answer, a number or a refusal.
@@ -336,50 +327,49 @@ fn play_gate<R: Wait + Clock>(
     Ok(true)
 }
 
-/// Does what a line says.
-fn play_line<S: ServedApart>(
+/// Makes the desk's call that a line names, if it is one that answers with a number.
+fn call<S: Served>(
+    alloc: Global,
+    desk: &Handle<S>,
+    caller: &mut Caller<S::Naming>,
+    word: &str,
+    rest: &str,
+) -> Option<Result<u64, Refusal>> {
+    let number: u64 = rest.parse().unwrap_or(0);
+    match word {
+        "submit" => Some(caller.submit(alloc, desk, rest)),
+        "decline" => Some(decline(alloc, desk, rest)),
+        "fill" => Some(caller.fill(desk, number)),
+        "settle" => Some(caller.settle(desk, rest == "last")),
+        "see" => Some(caller.see(desk, rest == "last")),
+        "until" => Some(until(desk, number)),
+        "width" => Some(width(desk)),
+        _ => None,
+    }
+}
+
+/// Does what a line says of the desk, if it is one of these. Answers whether it is.
+fn play_desk<S: Served>(
     rt: &S::Runtime,
     alloc: Global,
-    desk: &Desk<S>,
-    board: &Board,
+    desk: &Handle<S>,
     caller: &mut Caller<S::Naming>,
     line: &str,
     out: &mut Vec<u8>,
-) -> Result<(), Refusal> {
+) -> Result<bool, Refusal> {
     let (word, rest) = line.split_once(" ").unwrap_or((line, ""));
-    let number: u64 = rest.parse().unwrap_or(0);
-    let is_last = rest == "last";
-    let called = desk.handle();
-    match word {
-        "submit" => put(caller.submit(called, Group::one(command_of(rest)?)), out),
-        "group" => match group_of(alloc, rest) {
-            Ok(group) => put(caller.submit(called, group), out),
-            Err(refusal) => put(Err(refusal), out),
-        },
-        "decline" => put(decline(called, command_of(rest)?), out),
-        "fill" => put(caller.fill(called, number), out),
-        "settle-each" => put(caller.settle_each(called, number), out),
-        "settle" => put(caller.settle(called, is_last), out),
-        "see" => put(caller.see(called, is_last), out),
-        "until" => match desk.wait_version(number) {
-            Ok(shown) => put(Ok(shown.groups().len()), out),
-            Err(refusal) => put(Err(refusal), out),
-        },
-        "look" => look(rt, alloc, &mut desk.reader()?, out),
-        "learn" => caller.learn(rt, alloc, called, out),
-        "watch" => caller.watch(rt, alloc, called, number, out),
-        "width" => put(width(called), out),
-        "readers" => put(all_readers(alloc, called), out),
-        "halt" => {
-            desk.halt();
-            Ok(())
-        }
-        "end-writing" => {
-            desk.end_writing();
-            Ok(())
-        }
-        _ => put_unless(play_gate(rt, alloc, board, line, out)?, "no such line", out),
+    if let Some(answer) = call(alloc, desk, caller, word, rest) {
+        put(answer, out)?;
+        return Ok(true);
     }
+    match word {
+        "look" => caller.look(rt, alloc, desk, rest.parse().unwrap_or(0), out)?,
+        "learn" => caller.learn(rt, alloc, desk, out)?,
+        "halt" => desk.halt(),
+        "await-written" => await_written(rt, desk)?,
+        _ => return Ok(false),
+    }
+    Ok(true)
 }
 
 /// A caller that has nothing yet.
@@ -391,19 +381,22 @@ pub(crate) fn caller_of<N: Naming>(alloc: Global) -> Caller<N> {
     }
 }
 
-/// Does what the lines of a case's last text say, one after the other.
-pub(crate) fn play_moves<S: ServedApart>(
+/// Does what lines say, one after the other. Told are the desk's answers; a look that is refused is told so, too.
+pub(crate) fn play_lines<S: Served>(
     rt: &S::Runtime,
     alloc: Global,
-    desk: &Desk<S>,
+    desk: &Handle<S>,
     board: &Board,
-    given: Given<'_, '_>,
+    lines: &[u8],
     caller: &mut Caller<S::Naming>,
     out: &mut Vec<u8>,
 ) -> Result<(), Refusal> {
-    let last = given.texts.len().saturating_sub(1);
-    for line in str::from_utf8(given.text(last)).unwrap_or("").lines() {
-        play_line(rt, alloc, desk, board, caller, line, out)?;
+    for line in str::from_utf8(lines).unwrap_or("").lines() {
+        match play_desk(rt, alloc, desk, caller, line, out) {
+            Ok(true) => {}
+            Ok(false) => put_unless(play_gate(rt, alloc, board, line, out)?, "no such line", out)?,
+            Err(refusal) => put(Err(refusal), out)?,
+        }
     }
     Ok(())
 }

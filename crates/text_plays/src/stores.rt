@@ -4,7 +4,7 @@ use crate::outcomes::put_outcome;
 use crate::queries::put_answers;
 use crate::reading::{put_before_run, put_text};
 use crate::served::served;
-use crate::worded::{put_fault_line, put_help, put_job};
+use crate::worded::{put_codes, put_fault_line, put_help, put_job};
 use blocks::{Call, Given, NotingWriter};
 use disk::{Disk, MemDisk};
 use printing::Failed;
@@ -52,6 +52,7 @@ pub const CALLS: &[Call] = &[
     ("words", ""),
     ("help", ""),
     ("fault-line", ""),
+    ("codes", ""),
 ];
 
 /// The disk that the blocks so far have left.
@@ -219,6 +220,7 @@ impl<R: Threads + Copy> Made<R> {
             "write" | "cut" | "bytes" => self.call_disk(alloc, given, out),
             "words" => put_job(alloc, given, out),
             "help" => put_help(alloc, given, out),
+            "codes" => put_codes(out),
             _ => put_fault_line(given, out),
         }
     }

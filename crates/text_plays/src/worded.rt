@@ -79,3 +79,28 @@ pub(crate) fn put_fault_line(given: Given<'_, '_>, out: &mut Vec<u8>) -> io::Res
     let failed = Failed::Text { which: 0, fault };
     writeln!(out, "{}", fault_line(&failed, lines_of(given.text(0))))
 }
+
+/// Each code of a fault of a text.
+const CODES: [Code; 13] = [
+    Code::BadLine,
+    Code::NoProblemLine,
+    Code::SecondProblemLine,
+    Code::WrongKind,
+    Code::NumberRange,
+    Code::NodeRange,
+    Code::LengthRange,
+    Code::LineCount,
+    Code::TooLarge,
+    Code::Read,
+    Code::OutOfMemory,
+    Code::GroupSize,
+    Code::OpenGroup,
+];
+
+/// Adds each code of a fault.
+pub(crate) fn put_codes(out: &mut Vec<u8>) -> io::Result<()> {
+    for code in &CODES {
+        writeln!(out, "{code}")?;
+    }
+    Ok(())
+}

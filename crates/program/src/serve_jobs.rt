@@ -96,7 +96,9 @@ const LAST_ANSWERS: u64 = 1000;
 #[inline(never)]
 fn start_door<
     S: ServedApart,
-    P: Door + Drop + Send + 'static,
+    A: BufRead + Send + 'static,
+    B: Write + Send + 'static,
+    P: Door<A, B> + Drop + Send + 'static,
     C: Copies + Drop + Send + Sync + 'static,
 >(
     threads: S::Runtime,
@@ -119,7 +121,9 @@ fn start_door<
 /// Starts a thread for each door. It fails with 11 for lack of memory, and with 63 if the system gives no thread.
 fn start_each<
     S: ServedApart,
-    P: Door + Drop + Send + 'static,
+    A: BufRead + Send + 'static,
+    B: Write + Send + 'static,
+    P: Door<A, B> + Drop + Send + 'static,
     C: Copies + Drop + Send + Sync + 'static,
 >(
     threads: S::Runtime,
@@ -142,7 +146,9 @@ fn start_each<
 #[inline(never)]
 fn start_doors<
     S: ServedApart,
-    P: Door + Drop + Send + 'static,
+    A: BufRead + Send + 'static,
+    B: Write + Send + 'static,
+    P: Door<A, B> + Drop + Send + 'static,
     C: Copies + Drop + Send + Sync + 'static,
 >(
     threads: S::Runtime,
@@ -209,7 +215,9 @@ fn serve_store<
     D: Disk + Drop + Send + 'static,
     G: Gate + Drop + Send + Sync + 'static,
     T: ServerRuntime,
-    P: Door + Drop + Send + 'static,
+    A: BufRead + Send + 'static,
+    B: Write + Send + 'static,
+    P: Door<A, B> + Drop + Send + 'static,
     C: Copies + Drop + Send + Sync + 'static,
     I: BufRead,
     W: Write,
@@ -276,7 +284,9 @@ pub fn serve_disk<
     D: Disk + Drop + Send + 'static,
     G: Gate + Drop + Send + Sync + 'static,
     T: ServerRuntime,
-    P: Door + Drop + Send + 'static,
+    A: BufRead + Send + 'static,
+    B: Write + Send + 'static,
+    P: Door<A, B> + Drop + Send + 'static,
     I: BufRead,
     W: Write,
 >(
@@ -317,7 +327,7 @@ where
     };
     let history = History::new(store.network(), store.version());
     let copies = FileCopies::new(threads, folder, store.journal_pages());
-    serve_store::<Brand, _, _, _, _, _, _, _>(
+    serve_store::<Brand, _, _, _, _, _, _, _, _, _>(
         threads, alloc, history, store, gate, setup, lock, doors, copies, reader, writer,
     )
 }
@@ -365,7 +375,9 @@ fn serve_opened<
     R: AllocGlobal + Clock + Input + Print,
     T: ServerRuntime,
     D: Disk + Drop + Send + 'static,
-    P: Door + Drop + Send + 'static,
+    A: BufRead + Send + 'static,
+    B: Write + Send + 'static,
+    P: Door<A, B> + Drop + Send + 'static,
 >(rt: &R, threads: T, opened: Opened<D, P>) -> Result<Done, Failed>
 where
     T::Dir: Send + 'static,

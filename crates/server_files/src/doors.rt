@@ -142,11 +142,10 @@ impl<T: Eprint + Clock + Wait> PipeDoor<T> {
     }
 }
 
-impl<T: Files<File = File> + Eprint + Clock + Wait + Copy> Door for PipeDoor<T> {
-    type Input = BufReader<File>;
-
-    type Output = BufWriter<AnswerPipe>;
-
+impl<T: Files<File = File> + Eprint + Clock + Wait + Copy> Door<
+    BufReader<File>,
+    BufWriter<AnswerPipe>,
+> for PipeDoor<T> {
     fn asks_alone(&self) -> bool
         ensures { result ≡ self.now.asks_alone }
     {

@@ -55,11 +55,7 @@ fn client(alloc: Global, text: &[u8], reads: u32) -> Option<BufReader<OwnText>> 
     BufReader::with_capacity(alloc, 4, own).ok()
 }
 
-impl<R: Wait> Door for TextDoor<R> {
-    type Input = BufReader<OwnText>;
-
-    type Output = Vec<u8>;
-
+impl<R: Wait> Door<BufReader<OwnText>, Vec<u8>> for TextDoor<R> {
     fn asks_alone(&self) -> bool {
         self.asks_alone
     }

@@ -86,7 +86,7 @@ fn serve_at<S: Served, I: BufRead, W: Write, C: Copies>(
 }
 
 /// A session with one client after the other.
-fn serve_in_turn<S: Served, P: Door, C: Copies>(
+fn serve_in_turn<S: Served, I: BufRead, W: Write, P: Door<I, W>, C: Copies>(
     rt: &S::Runtime,
     alloc: Global,
     desk: &Handle<S>,
@@ -153,7 +153,9 @@ pub fn let_go<
 /// It fails with 63 if the system gives no thread. Then the door is dropped.
 pub fn serve_door<
     S: Served + Send + 'static,
-    P: Door + Drop + Send + 'static,
+    I: BufRead + Send + 'static,
+    W: Write + Send + 'static,
+    P: Door<I, W> + Drop + Send + 'static,
     C: Copies + Drop + Send + Sync + 'static,
 >(
     rt: S::Runtime,

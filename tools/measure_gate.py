@@ -21,7 +21,7 @@ TOP = pathlib.Path(__file__).resolve().parent.parent
 TICK, PAGE = os.sysconf("SC_CLK_TCK"), os.sysconf("SC_PAGE_SIZE")
 
 def look(pid):
-    """The words, the parent, the processor seconds, the bytes and the folder of a process, if it is there."""
+    """The words, the parent, the processor seconds with those of the children that have ended, the bytes, the folder and the beginning of a process, if it is there."""
     try:
         folder = os.readlink(f"/proc/{pid}/cwd")
         words = pathlib.Path(f"/proc/{pid}/cmdline").read_bytes().decode(errors="replace").split("\0")
@@ -29,7 +29,7 @@ def look(pid):
         held = int(pathlib.Path(f"/proc/{pid}/statm").read_text().split()[1]) * PAGE
     except (OSError, IndexError, ValueError):
         return None
-    return words, int(fields[1]), (int(fields[11]) + int(fields[12])) / TICK, held, folder
+    return words, int(fields[1]), sum(map(int, fields[11:15])) / TICK, held, folder, fields[19]
 
 def kind_of(words, folder):
     if "--incremental" in words or "/crates/" not in folder:
@@ -37,7 +37,7 @@ def kind_of(words, folder):
     return "tests" if "--test" in words else "proof"
 
 def watch(gate, is_running):
-    """What each prover below the process `gate` took, by its number: crate, kind, seconds, bytes, and when it was last seen."""
+    """What each prover below the process `gate` took: crate, kind, seconds, bytes, and when it was last seen. A number is given again to later processes."""
     begun, provers = time.monotonic(), {}
     while is_running():
         seen = {int(it): look(it) for it in os.listdir("/proc") if it.isdigit()}
@@ -48,9 +48,9 @@ def watch(gate, is_running):
             while above != gate and seen.get(above):
                 above = seen[above][1]
             if above == gate:
-                words, _, seconds, held, folder = found
-                most = max(held, provers[pid][3] if pid in provers else 0)
-                provers[pid] = words[words.index("--crate-name") + 1], kind_of(words, folder), seconds, most, time.monotonic() - begun
+                words, _, seconds, held, folder, start = found
+                most = max(held, provers[pid, start][3] if (pid, start) in provers else 0)
+                provers[pid, start] = words[words.index("--crate-name") + 1], kind_of(words, folder), seconds, most, time.monotonic() - begun
         time.sleep(0.5)
     return provers.values()
 

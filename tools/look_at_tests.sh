@@ -10,7 +10,7 @@ top=$(cd "$(dirname "${BASH_SOURCE[0]}")/.." && pwd)
 room=$(mktemp -d)
 trap 'rm -rf "$room"' EXIT
 # how many seconds the tests of a crate may run
-limit=600
+limit=1800
 
 # look CRATE: runs its tests, and leaves what they told, and the numbers of those that passed and that failed
 look() {

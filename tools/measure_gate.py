@@ -21,7 +21,7 @@ TOP = pathlib.Path(__file__).resolve().parent.parent
 TICK, PAGE = os.sysconf("SC_CLK_TCK"), os.sysconf("SC_PAGE_SIZE")
 
 def look(pid):
-    """The words, the parent, the processor seconds with those of the children that have ended, the bytes, the folder and the beginning of a process, if it is there."""
+    """The words, the parent, the processor seconds, the bytes, the folder and the beginning of a process, if it is there."""
     try:
         folder = os.readlink(f"/proc/{pid}/cwd")
         words = pathlib.Path(f"/proc/{pid}/cmdline").read_bytes().decode(errors="replace").split("\0")
@@ -29,7 +29,7 @@ def look(pid):
         held = int(pathlib.Path(f"/proc/{pid}/statm").read_text().split()[1]) * PAGE
     except (OSError, IndexError, ValueError):
         return None
-    return words, int(fields[1]), sum(map(int, fields[11:15])) / TICK, held, folder, fields[19]
+    return words, int(fields[1]), (int(fields[11]) + int(fields[12])) / TICK, held, folder, fields[19]
 
 def kind_of(words, folder):
     if "--incremental" in words or "/crates/" not in folder:
